@@ -13,5 +13,5 @@ mod start;
 pub use folder::{EXPORT, Folder, JOURNAL, belongs_to};
 pub use found::Found;
 pub use kept::{Kept, read_kept};
-pub use resuming::go_on_with;
+pub use resuming::{go_on_with, reopen_for};
 pub use start::{forget_start, last_crash, note_start};

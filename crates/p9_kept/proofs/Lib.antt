@@ -6,3 +6,4 @@ pub mod Making
 pub mod Untouched
 pub mod Renewed
 pub mod Runs
+pub mod Entered

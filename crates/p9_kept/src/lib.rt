@@ -8,8 +8,9 @@ mod living;
 mod noting;
 mod reopening;
 mod replaying;
+mod slots;
 
 pub use file_journal::{FileJournal, RenewError};
 pub use living::{Step, live};
-pub use reopening::{ReopenError, Reopened, reopen};
+pub use reopening::{ReopenError, Reopened, reopen, resume};
 pub use replaying::{Refused, replay};

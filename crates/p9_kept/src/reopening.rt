@@ -1,12 +1,14 @@
 //! A forest that was kept, opened again.
 
 ghost use Rattle.std.specs.Prelude.{◌≡◌, IfOk, IsTrue};
+ghost use Rattle.p9_log.specs.declared.crash.Crash.TheVariants.{Killed};
 ghost use Rattle.p9_log.specs.Blocks.{content_in};
+ghost use Rattle.p9_log.specs.Log.{LeaveAsSeen};
 ghost use Rattle.p9_kept.specs.Edits.{stood_for};
 
 use crate::file_journal::FileJournal;
 use crate::replaying::{Refused, replay};
-use p9_log::{Crash, Device, LogError, recover};
+use p9_log::{Crash, Device, LogError, Recovered, recover};
 use p9_tree::{Forest, Journal, Tree};
 use std::alloc::Allocator;
 use thiserror::Error;
@@ -45,10 +47,25 @@ pub fn reopen<D: Device, A: Allocator + Copy, T: Tree<Alloc = A>>(
     ensures stands { IfOk result (λ r. ⟦<FileJournal<D, A> as Journal>⟧.stands_for r.journal
         ≡ r.forest) }
 {
-    let recovered = match recover(alloc, device, how) {
-        Ok(recovered) => recovered,
-        Err((error, _device)) => return Err(ReopenError::Log(error)),
-    };
+    match recover(alloc, device, how) {
+        Ok(recovered) => resume(alloc, recovered),
+        Err((error, _device)) => Err(ReopenError::Log(error)),
+    }
+}
+
+/// Opens a forest whose journal is in a log that was recovered, as [`reopen`].
+pub fn resume<D: Device, A: Allocator + Copy, T: Tree<Alloc = A>>(
+    alloc: A,
+    recovered: Recovered<D, A>,
+) -> Result<Reopened<D, A, T>, ReopenError>
+    requires content { content_in Killed (D.seen recovered.log.device) ≡ recovered.bytes.items }
+    requires as_seen { LeaveAsSeen (D.seen recovered.log.device)
+        (D.may_leave recovered.log.device) }
+    ensures forest { IfOk result (λ r. r.forest ≡ stood_for recovered.bytes.items) }
+    ensures whole { IfOk result (λ r. IsTrue (⟦<FileJournal<D, A> as Journal>⟧.is_whole r.journal)) }
+    ensures stands { IfOk result (λ r. ⟦<FileJournal<D, A> as Journal>⟧.stands_for r.journal
+        ≡ r.forest) }
+{
     let forest = match replay(alloc, &recovered.bytes) {
         Ok(forest) => forest,
         Err(refused) => return Err(ReopenError::Changes(refused)),

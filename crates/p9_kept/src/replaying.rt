@@ -1,12 +1,12 @@
 //! Changes that were recorded, made again.
 
-ghost use Rattle.std.specs.Prelude.{◌≡◌, ◌≢◌, ◌≤◌, ◌+◌, IfOk, IsFalse, IsTrue, OnOk, length, map};
+ghost use Rattle.std.specs.Prelude.{◌≡◌, ◌≢◌, ◌≤◌, ◌+◌, All, Bool, IfOk, IsFalse, IsTrue, List, None, OnOk, length, map};
 ghost use Rattle.std.specs.Option.{ForSome};
 ghost use Rattle.p9_base.specs.Mode.{is_dir as is_dir_mode};
 ghost use Rattle.p9_base.specs.NodeRef.{servers_max};
 ghost use Rattle.p9_tree.specs.Bytes.{file_max};
 ghost use Rattle.p9_tree.specs.Change.{CanChange, CanChangeNode};
-ghost use Rattle.p9_tree.specs.Edit.{edited};
+ghost use Rattle.p9_tree.specs.Edit.{edited, PutBack, Skip, Write};
 ghost use Rattle.p9_tree.specs.ForestChange.{forest_edit_of};
 ghost use Rattle.p9_tree.specs.ForestEdit.{forest_edited, AddServer, OnServer};
 ghost use Rattle.p9_tree.specs.New.{CanAddNew};
@@ -16,14 +16,20 @@ ghost use Rattle.p9_tree.specs.Server.{child_of, has_children, is_dir_at};
 ghost use Rattle.p9_tree.specs.TreeChange.{edit_of};
 ghost use Rattle.p9_record.specs.Closed.{IsEarlier};
 ghost use Rattle.p9_kept.specs.Edits.{IsWhole, stood_for, stood_from};
+ghost use Rattle.p9_kept.specs.Entered.{AreEntered, KeepsEntered};
 
+use crate::slots::Entered;
 use p9_base::{NoMemory, SERVERS_MAX};
 use p9_record::{is_earlier, take_closed};
 use p9_tree::{
-    Change, FILE_MAX, Forest, ForestChange, NEXT_MAX, New, Node, Saved, Tree, TreeChange, fits_file,
+    Change, Entry, FILE_MAX, Forest, ForestChange, NEXT_MAX, New, Node, Saved, Tree, TreeChange,
+    fits_file,
 };
 use std::alloc::Allocator;
 use thiserror::Error;
+
+// A record has at least so many bytes for each slot of the names that are entered.
+const SLOT: usize = 8;
 
 /// Why recorded changes are not made again.
 #[derive(Clone, Copy, Debug, PartialEq, Eq, Error)]
@@ -51,7 +57,8 @@ pub fn replay<T: Tree>(alloc: T::Alloc, bytes: &[u8]) -> Result<Forest<T>, Refus
     ensures whole { OnOk result (IsWhole bytes.now) }
 {
     let mut trees = Vec::new(alloc);
-    replay_in(alloc, &mut trees, bytes)?;
+    let mut entered = Entered::with_slots(alloc, bytes.len() / SLOT)?;
+    replay_in(alloc, &mut trees, &mut entered, bytes)?;
     Ok(Forest::new(trees))
 }
 
@@ -59,9 +66,11 @@ pub fn replay<T: Tree>(alloc: T::Alloc, bytes: &[u8]) -> Result<Forest<T>, Refus
 fn replay_in<T: Tree>(
     alloc: T::Alloc,
     trees: &mut Vec<T, T::Alloc>,
+    entered: &mut Entered<T::Alloc>,
     bytes: &[u8],
 ) -> Result<(), Refused>
-    requires { length trees.old.items ≤ servers_max }
+    requires few { length trees.old.items ≤ servers_max }
+    requires entered { All (λ t. AreEntered entered.old (T.state t).nodes) trees.old.items }
     ensures made { OnOk result (map T.state trees.new.items
         ≡ stood_from (map T.state trees.old.items) bytes.now) }
     ensures whole { OnOk result (IsWhole bytes.now) }
@@ -75,7 +84,7 @@ fn replay_in<T: Tree>(
         if after.len() >= rest.len() {
             return Err(Refused::Damaged);
         }
-        make(alloc, trees, &change)?;
+        make(alloc, trees, entered, &change)?;
         rest = after;
     }
     Ok(())
@@ -96,16 +105,20 @@ fn refusal_of(bytes: &[u8]) -> Refused
 fn make<T: Tree>(
     alloc: T::Alloc,
     trees: &mut Vec<T, T::Alloc>,
+    entered: &mut Entered<T::Alloc>,
     change: &ForestChange<'_>,
 ) -> Result<(), Refused>
-    requires { length trees.old.items ≤ servers_max }
+    requires few { length trees.old.items ≤ servers_max }
+    requires entered { All (λ t. AreEntered entered.old (T.state t).nodes) trees.old.items }
+    ensures entered { OnOk result
+        (All (λ t. AreEntered entered.new (T.state t).nodes) trees.new.items) }
     ensures made { OnOk result (map T.state trees.new.items
         ≡ forest_edited (forest_edit_of change.entry.now) (map T.state trees.old.items)) }
     ensures few { length trees.new.items ≤ servers_max }
 {
     match change {
         ForestChange::AddServer => add_server(alloc, trees),
-        ForestChange::OnServer { server, change } => make_on(trees, *server, change),
+        ForestChange::OnServer { server, change } => make_on(trees, entered, *server, change),
     }
 }
 
@@ -114,6 +127,9 @@ fn add_server<T: Tree>(alloc: T::Alloc, trees: &mut Vec<T, T::Alloc>) -> Result<
     requires { length trees.old.items ≤ servers_max }
     ensures made { OnOk result (map T.state trees.new.items
         ≡ forest_edited AddServer (map T.state trees.old.items)) }
+    ensures entered { OnOk result ((slots : List Bool)
+        → All (λ t. AreEntered slots (T.state t).nodes) trees.old.items
+        → All (λ t. AreEntered slots (T.state t).nodes) trees.new.items) }
     ensures few { length trees.new.items ≤ servers_max }
 {
     if trees.len() >= SERVERS_MAX {
@@ -129,9 +145,13 @@ fn add_server<T: Tree>(alloc: T::Alloc, trees: &mut Vec<T, T::Alloc>) -> Result<
 // Makes a change of the tree of a server.
 fn make_on<T: Tree>(
     trees: &mut Vec<T, T::Alloc>,
+    entered: &mut Entered<T::Alloc>,
     server: u16,
     change: &TreeChange<'_>,
 ) -> Result<(), Refused>
+    requires { All (λ t. AreEntered entered.old (T.state t).nodes) trees.old.items }
+    ensures entered { OnOk result
+        (All (λ t. AreEntered entered.new (T.state t).nodes) trees.new.items) }
     ensures made { OnOk result (map T.state trees.new.items
         ≡ forest_edited (OnServer server (edit_of change.now)) (map T.state trees.old.items)) }
     ensures few { length trees.new.items ≡ length trees.old.items }
@@ -139,15 +159,92 @@ fn make_on<T: Tree>(
     let Some(tree) = trees.get_mut(server as usize) else {
         return Err(Refused::Damaged);
     };
-    match make_in(tree, change) {
+    match make_in(tree, entered, change) {
         Ok(true) => Ok(()),
         Ok(false) => Err(Refused::Damaged),
         Err(_) => Err(Refused::NoMemory),
     }
 }
 
-// Makes a change of a tree, if it can be made, and returns whether it was.
-fn make_in<T: Tree>(tree: &mut T, change: &TreeChange<'_>) -> Result<bool, NoMemory>
+// Makes a change of a tree, if it can be made, and returns whether it was. Names that it enters are noted,
+// or all of them are given up.
+fn make_in<T: Tree>(
+    tree: &mut T,
+    entered: &mut Entered<T::Alloc>,
+    change: &TreeChange<'_>,
+) -> Result<bool, NoMemory>
+    requires { AreEntered entered.old (T.state tree.old).nodes }
+    ensures made { IfOk result (λ made. IsTrue made
+        → T.state tree.new ≡ edited (edit_of change.now) (T.state tree.old)) }
+    ensures entered { IfOk result (λ made. IsTrue made
+        → AreEntered entered.new (T.state tree.new).nodes) }
+    ensures kept { KeepsEntered entered.old entered.new }
+{
+    match change {
+        TreeChange::PutBack { saved } => put_back(tree, entered, saved),
+        TreeChange::Write {
+            number,
+            offset,
+            bytes,
+        } => write(tree, *number, *offset, bytes),
+        TreeChange::Skip { next } => Ok(skip_to(tree, *next)),
+        _ => {
+            entered.give_up();
+            make_other(tree, change)
+        }
+    }
+}
+
+// Puts a node back, if that can be done, and returns whether it was.
+fn put_back<T: Tree>(
+    tree: &mut T,
+    entered: &mut Entered<T::Alloc>,
+    saved: &Saved<'_>,
+) -> Result<bool, NoMemory>
+    requires { AreEntered entered.old (T.state tree.old).nodes }
+    ensures made { IfOk result (λ made. IsTrue made
+        → T.state tree.new ≡ edited (PutBack (saved_node saved.entry.now)) (T.state tree.old)) }
+    ensures entered { IfOk result (λ made. IsTrue made
+        → AreEntered entered.new (T.state tree.new).nodes) }
+    ensures kept { KeepsEntered entered.old entered.new }
+{
+    if !can_put_back(tree, entered, saved) {
+        return Ok(false);
+    }
+    tree.put_back(saved)?;
+    if let Some(entry) = &saved.entry {
+        entered.enter(entry.parent, &entry.name);
+    }
+    Ok(true)
+}
+
+// Writes into a file, if that can be done, and returns whether it was.
+fn write<T: Tree>(tree: &mut T, number: u64, offset: u64, bytes: &[u8]) -> Result<bool, NoMemory>
+    ensures made { IfOk result (λ made. IsTrue made
+        → T.state tree.new ≡ edited (Write number offset bytes.now) (T.state tree.old)) }
+    ensures entered { IfOk result (λ made. IsTrue made → (slots : List Bool)
+        → AreEntered slots (T.state tree.old).nodes → AreEntered slots (T.state tree.new).nodes) }
+{
+    if is_dir(tree, number) || !fits_file(offset, bytes.len()) {
+        return Ok(false);
+    }
+    tree.write(number, offset, bytes)?;
+    Ok(true)
+}
+
+// Sets the next number, if that can be done, and returns whether it was.
+fn skip_to<T: Tree>(tree: &mut T, next: u64) -> bool
+    ensures { IsTrue result → T.state tree.new ≡ edited (Skip next) (T.state tree.old) }
+{
+    if next < tree.next() || next > NEXT_MAX {
+        return false;
+    }
+    tree.skip_to(next);
+    true
+}
+
+// Makes a change of a tree that puts no node back, if it can be made, and returns whether it was.
+fn make_other<T: Tree>(tree: &mut T, change: &TreeChange<'_>) -> Result<bool, NoMemory>
     ensures { IfOk result (λ made. IsTrue made
         → T.state tree.new ≡ edited (edit_of change.now) (T.state tree.old)) }
 {
@@ -189,35 +286,13 @@ fn make_in<T: Tree>(tree: &mut T, change: &TreeChange<'_>) -> Result<bool, NoMem
             tree.bump(*number, *user, *clock);
             Ok(true)
         }
-        TreeChange::Write {
-            number,
-            offset,
-            bytes,
-        } => {
-            if is_dir(tree, *number) || !fits_file(*offset, bytes.len()) {
-                return Ok(false);
-            }
-            tree.write(*number, *offset, bytes)?;
-            Ok(true)
-        }
         TreeChange::Truncate { number, size } => {
             tree.cut(*number, *size);
             Ok(true)
         }
-        TreeChange::PutBack { saved } => {
-            if !can_put_back(tree, saved) {
-                return Ok(false);
-            }
-            tree.put_back(saved)?;
-            Ok(true)
-        }
-        TreeChange::Skip { next } => {
-            if *next < tree.next() || *next > NEXT_MAX {
-                return Ok(false);
-            }
-            tree.skip_to(*next);
-            Ok(true)
-        }
+        TreeChange::Write { .. } | TreeChange::PutBack { .. } | TreeChange::Skip { .. } => Ok(
+            false,
+        ),
     }
 }
 
@@ -240,7 +315,8 @@ fn can_create<T: Tree>(tree: &T, dir: u64, new: &New<'_>) -> bool
 }
 
 // Whether a node may be put back with these fields.
-fn can_put_back<T: Tree>(tree: &T, saved: &Saved<'_>) -> bool
+fn can_put_back<T: Tree>(tree: &T, entered: &Entered<T::Alloc>, saved: &Saved<'_>) -> bool
+    requires { AreEntered entered.now (T.state tree.now).nodes }
     ensures { IsTrue result → CanPutBack (T.state tree.now) (saved_node saved.now) }
 {
     let Some(entry) = &saved.entry else {
@@ -249,9 +325,19 @@ fn can_put_back<T: Tree>(tree: &T, saved: &Saved<'_>) -> bool
     tree.next() <= saved.number
         && saved.number < NEXT_MAX
         && is_dir(tree, entry.parent)
-        && tree.child(entry.parent, &entry.name).is_none()
+        && is_free(tree, entered, entry)
         && saved.bytes.len() <= FILE_MAX
         && (!saved.mode.is_dir() || saved.bytes.is_empty())
+}
+
+// Whether no node is in this directory under this name. Where the name was never entered, the directory
+// isn't looked at.
+fn is_free<T: Tree>(tree: &T, entered: &Entered<T::Alloc>, entry: &Entry) -> bool
+    requires { AreEntered entered.now (T.state tree.now).nodes }
+    ensures { IsTrue result
+        → child_of entry.now.parent entry.now.name (T.state tree.now).nodes ≡ None }
+{
+    !entered.may_have(entry.parent, &entry.name) || tree.child(entry.parent, &entry.name).is_none()
 }
 
 // Whether the node of this number may be changed so, if there is one.

@@ -2,12 +2,12 @@
 
 use crate::PROGRAM;
 use p9_base::NoMemory;
-use p9_commands::Prepared;
+use p9_commands::{NameSpace, Prepared};
 use p9_disk::FileDevice;
-use p9_folder::{Folder, Found, JOURNAL, go_on_with, last_crash, note_start};
+use p9_folder::{Folder, Found, JOURNAL, go_on_with, last_crash, note_start, reopen_for};
 use p9_index::IndexTree;
 use p9_judge::{Verdict, judge};
-use p9_kept::{FileJournal, Refused, ReopenError, Reopened, reopen};
+use p9_kept::{FileJournal, Refused, ReopenError, Reopened};
 use p9_log::Crash;
 use p9_shell::{Failure, tell};
 use p9_shown::AsShown;
@@ -38,7 +38,7 @@ pub(crate) fn keep_in(
     prepared: &mut Prepared<Trees>,
 ) -> Result<(), Failure> {
     let how = last_crash(rt, folder.path());
-    let (kept, found) = opened(rt, folder, how)?;
+    let (kept, found) = opened(rt, folder, how, &mut prepared.space)?;
     match noted(rt, folder, how) {
         Ok(()) => {}
         Err(failure) => {
@@ -63,8 +63,14 @@ fn noted(rt: &HostRuntime, folder: &Folder, how: Crash) -> Result<(), Failure> {
     }
 }
 
-// What is kept in a folder, and what was found there.
-fn opened(rt: &HostRuntime, folder: &Folder, how: Crash) -> Result<(Kept, Found), Failure> {
+// What is kept in a folder, and what was found there. Where trees are kept those of a name space are
+// bare then, since it goes on with the others.
+fn opened(
+    rt: &HostRuntime,
+    folder: &Folder,
+    how: Crash,
+    space: &mut NameSpace<Trees>,
+) -> Result<(Kept, Found), Failure> {
     let place = folder.place(rt, JOURNAL)?;
     let device = PROGRAM.had(
         rt,
@@ -75,7 +81,7 @@ fn opened(rt: &HostRuntime, folder: &Folder, how: Crash) -> Result<(Kept, Found)
         forest,
         journal,
         left_out,
-    } = match reopen::<FileDevice, Global, Trees>(rt.alloc(), device, how) {
+    } = match reopen_for::<FileDevice, Global, Trees>(rt.alloc(), device, how, space) {
         Ok(reopened) => reopened,
         Err(error) => return Err(refuse(rt, folder, error)),
     };

@@ -10,4 +10,4 @@ returns-in-Ok-true-clause-made g c =
     omega (arith, c.in-Some.ensures.variant.0 refl) in
     map-tree_changed_at g.T.Tree.state (edited (edit_of c.args.change.now)) _ c.args.server
     c.in-Some.tree.now c.make_in.new.tree within c.in-Some.ensures.value
-    (c.in-Ok-true.ensures c.in-Ok-true.field-0-test)
+    (c.in-Ok-true.ensures.made c.in-Ok-true.field-0-test)

@@ -17,6 +17,7 @@ loop-rest-preserved g c =
           read-more c.args.bytes.now c.loop-rest.rest.now c.in-Some.after.now
           (forest_edit_of c.in-Some.change) c.loop-rest.invariant.read c.in-Some.ensures;
       few = c.in_ok-make.ensures.few;
+      entered = c.in_ok-make.ensures.entered;
     }
 
 pub returns-clause-made : goal.returns-clause-made
@@ -33,4 +34,9 @@ pub loop-rest-init : goal.loop-rest-init
 loop-rest-init g c =
     let bytes : IsBytes c.args.bytes.now =
     All-from_get_or (λ b. b < 256) c.args.bytes.now 0 (λ i lt. omega (arith, c.type_inv.bytes i)) in
-    record { stood = refl; read = read-none c.args.bytes.now bytes; few = c.requires }
+    record {
+      stood = refl;
+      read = read-none c.args.bytes.now bytes;
+      few = c.requires.few;
+      entered = c.requires.entered;
+    }
