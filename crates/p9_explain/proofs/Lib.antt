@@ -1,5 +1,7 @@
 pub mod Walks
 pub mod Pieces
+pub mod Joins
+pub mod Parts
 pub mod Numbers
 pub mod Verdicts
 pub mod Refusals

@@ -19,12 +19,13 @@ use Rattle.p9_explain.specs.Explained.{IsFurtherTold, IsRestTold, IsVerdict, yes
 use Rattle.p9_explain.specs.Free.{free_lines}
 use Rattle.p9_explain.specs.Told.{IsBreachTold}
 
-module _ {A : Type 0} (prepared : Prepared) where
-  abbrev claimed : List ℕ
-  claimed = claim_text prepared.space.world
+-- its claim
+abbrev claimed : Prepared → List ℕ
+claimed prepared = claim_text prepared.space.world
 
+module _ {A : Type 0} (prepared : Prepared) where
   pub yes-told : (verdict : Verdict A) (rows : List NodeRef) (claim words text : List ℕ)
-      → claim ≡ claimed → verdict ≡ Yes rows
+      → claim ≡ claimed prepared → verdict ≡ Yes rows
       → IsTrue (is_table_given prepared.space.world.forest prepared.space.table) →
       IsJudged (policy_of prepared.space.world) prepared.space.world.forest prepared.space.table verdict
       → IsReachTold prepared.space rows words → text ≡ claim ++ (codes "yes: " ++ words)
@@ -42,11 +43,11 @@ module _ {A : Type 0} (prepared : Prepared) where
         is =
             written
             ∙ ap (λ c. c ++ (codes "yes: " ++ words)) claim_is
-            ∙ sym (append_assoc claimed (codes "yes: ") words);
+            ∙ sym (append_assoc (claimed prepared) (codes "yes: ") words);
       })
 
   pub no-told : (verdict : Verdict A) (breach : Breach A) (claim words text : List ℕ)
-      → claim ≡ claimed → verdict ≡ No breach →
+      → claim ≡ claimed prepared → verdict ≡ No breach →
       IsJudged (policy_of prepared.space.world) prepared.space.world.forest prepared.space.table verdict
       → IsBreachTold prepared.space.world breach.steps.items breach.member breach.kind words
       → text ≡ claim ++ (codes "no: " ++ words) → IsVerdict prepared 1 text
@@ -72,7 +73,7 @@ module _ {A : Type 0} (prepared : Prepared) where
         is =
             written
             ∙ ap (λ c. c ++ (codes "no: " ++ words)) claim_is
-            ∙ sym (append_assoc claimed (codes "no: ") words);
+            ∙ sym (append_assoc (claimed prepared) (codes "no: ") words);
       })
 
 -- what follows a verdict, by its parts

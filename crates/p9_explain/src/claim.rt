@@ -37,7 +37,8 @@ fn push_claim_about<T: Tree>(
         [_, ..] => {
             push_users(text, world.users.as_slice())?;
             push(text, " what is inside ")?;
-            push_paths(text, world, hidden)
+            push_paths(text, world, hidden)?;
+            Ok(())
         }
     }
 }
