@@ -92,12 +92,20 @@ fn lay_bare<T: Tree>(alloc: T::Alloc, space: &mut NameSpace<T>)
       world = record space.old.world { forest = space.new.world.forest };
     } }
 {
-    let Ok(trees) = bare_trees(alloc, space.world.forest.trees()) else {
+    let Ok(trees) = bare_trees_of(alloc, space) else {
         return;
     };
     if trees.len() <= SERVERS_MAX {
         go_on_with(space, Forest::new(trees));
     }
+}
+
+// A bare tree for each tree of a name space.
+fn bare_trees_of<T: Tree>(
+    alloc: T::Alloc,
+    space: &NameSpace<T>,
+) -> Result<Vec<T, T::Alloc>, NoMemory> {
+    bare_trees(alloc, space.world.forest.trees())
 }
 
 // A bare tree for each of these.
