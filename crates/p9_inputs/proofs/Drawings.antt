@@ -1,5 +1,5 @@
 -- What is drawn of an input, added to what is there.
-use Rattle.std.proofs.Common.{◌≡◌, ◌∙◌, ◌++◌, ℕ, List, [], Option, Result, Ok, Err, ap, append-nil}
+use Rattle.std.proofs.Common.{◌∙◌, ◌++◌, ℕ, List, [], Option, Result, Ok, Err, ap, append-nil}
 use Rattle.p9_base.specs.declared.node_ref.NodeRef.{NodeRef}
 use Rattle.p9_cert.specs.declared.gap.Gap.{Gap}
 use Rattle.p9_commands.specs.NameSpace.{NameSpace}

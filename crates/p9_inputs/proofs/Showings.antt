@@ -1,5 +1,5 @@
 -- What is shown of an input, added to what is there.
-use Rattle.std.proofs.Common.{◌≡◌, ◌∙◌, ◌++◌, ℕ, List, [], Option, Some, None, Result, Ok, Err, ap}
+use Rattle.std.proofs.Common.{◌∙◌, ◌++◌, ℕ, List, [], Option, Some, None, Result, Ok, Err, ap}
 use Rattle.std.proofs.Common.{append-nil}
 use Rattle.std.specs.Prelude.{MatchOption, find}
 use Rattle.std.specs.Str.{bytes_eq}
