@@ -11,12 +11,12 @@ import sys
 import time
 from pathlib import Path
 
-from own_messages import NOFID, frame, text
+from own_messages import tattach
 
 RESULTS = {"passed": 0, "failed": 0}
 USERS = ("anna", "bob", "carol")
 UNKNOWN = b"unknown user"
-TVERSION, RVERSION, TATTACH, RATTACH, RERROR = 100, 101, 104, 105, 107
+RVERSION, RATTACH, RERROR = 101, 105, 107
 
 
 def program(name: str, variable: str) -> str:
@@ -37,15 +37,8 @@ def tell(what: str, holds: bool, got: object = "") -> None:
         print(f"FAILED {what}: {str(got)[:800]}", flush=True)
 
 
-# Messages.
-
-
-def version(msize: int = 8192) -> bytes:
-    return frame(TVERSION, 0xFFFF, struct.pack("<I", msize) + text(b"9P2000"))
-
-
 def attach(user: bytes, fid: int = 0, tag: int = 1, aname: bytes = b"") -> bytes:
-    return frame(TATTACH, tag, struct.pack("<II", fid, NOFID) + text(user) + text(aname))
+    return tattach(tag, fid, user, aname)
 
 
 class Client:

@@ -4,7 +4,7 @@ from __future__ import annotations
 
 import struct
 
-NOFID = 0xFFFFFFFF
+NOFID, NOTAG = 0xFFFFFFFF, 0xFFFF
 
 
 def text(name: bytes | str) -> bytes:
@@ -40,9 +40,10 @@ def write(fid, offset, data):
     return struct.pack("<IQI", fid, offset, len(data)) + data
 
 
-def stat(names=("", "", "", ""), mode=NOFID, qid=b"\xff" * 13, length=(1 << 64) - 1, times=NOFID, kind=0xFFFF, dev=NOFID):
-    """A stat; without a word about it, one that leaves all as it is."""
-    body = struct.pack("<HI", kind, dev) + qid + struct.pack("<III", mode, times, times) + struct.pack("<Q", length)
+def stat(names=("", "", "", ""), mode=NOFID, qid=b"\xff" * 13, length=(1 << 64) - 1, times=NOFID, kind=0xFFFF, dev=NOFID, atime=None):
+    """A stat; what isn't named is not to be changed. `times` is both times, but where the time of last access is named."""
+    read = times if atime is None else atime
+    body = struct.pack("<HI", kind, dev) + qid + struct.pack("<III", mode, read, times) + struct.pack("<Q", length)
     body += b"".join(map(text, names))
     return struct.pack("<H", len(body)) + body
 
@@ -61,3 +62,54 @@ def walked(*qids):
 
 def number(count):
     return struct.pack("<I", count)
+
+
+# Requests, as whole messages.
+
+
+def tversion(msize=8192, tag=NOTAG):
+    return frame(100, tag, version(msize))
+
+
+def tattach(tag, fid, user="glenda", name=""):
+    return frame(104, tag, attach(fid, user, name))
+
+
+def tflush(tag, other):
+    return frame(108, tag, struct.pack("<H", other))
+
+
+def twalk(tag, fid, newfid, *names):
+    return frame(110, tag, walk(fid, newfid, *names))
+
+
+def topen(tag, fid, mode=0):
+    return frame(112, tag, struct.pack("<IB", fid, mode))
+
+
+def tcreate(tag, fid, name, perm=0o644, mode=1):
+    return frame(114, tag, create(fid, name, perm, mode))
+
+
+def tread(tag, fid, offset, count):
+    return frame(116, tag, struct.pack("<IQI", fid, offset, count))
+
+
+def twrite(tag, fid, offset, data):
+    return frame(118, tag, write(fid, offset, data))
+
+
+def tclunk(tag, fid):
+    return frame(120, tag, number(fid))
+
+
+def tremove(tag, fid):
+    return frame(122, tag, number(fid))
+
+
+def tstat(tag, fid):
+    return frame(124, tag, number(fid))
+
+
+def twstat(tag, fid, changed):
+    return frame(126, tag, number(fid) + counted(changed))

@@ -74,18 +74,23 @@ module _ (world : World) where
       × (line ≡ codes "  " ++ path_text member ++ first_line made ++ codes ") "
       ++ fault_words (fault_of kind) ++ first_line why ++ codes "\n")
 
-  -- what is within reach, who attaches, the steps, the member that they lead to, and free lines. The
-  -- steps are as one listed user takes them, if one is named who may take them all
-  pub record IsBreachTold (steps : List Step) (member : NodeRef) (kind : BreachKind) (text : List ℕ)
+  -- what is within reach, who attaches, the steps, the member that they lead to, and free lines
+  pub record IsWayTold (steps : List Step) (member : NodeRef) (kind : BreachKind) (text : List ℕ)
       : Type 0 where
-    pub walker : Option (List ℕ)
-    pub takes_all : IfSome walker (λ user. TakesAll world user steps)
     pub head : List ℕ
     pub walk : List ℕ
     pub end : List ℕ
     pub mend : List ℕ
     pub head_told : IsHeadTold head
-    pub steps_told : IsWalkTold (steps_by walker steps) walk
+    pub steps_told : IsWalkTold steps walk
     pub end_told : IsEndTold member kind end
     pub free : AreFree mend
-    pub is : text ≡ head ++ start_text (steps_by walker steps) ++ walk ++ end ++ mend
+    pub is : text ≡ head ++ start_text steps ++ walk ++ end ++ mend
+
+  -- a way to the member, whose steps are as one listed user takes them, if one is named who may take
+  -- them all
+  pub record IsBreachTold (steps : List Step) (member : NodeRef) (kind : BreachKind) (text : List ℕ)
+      : Type 0 where
+    pub walker : Option (List ℕ)
+    pub takes_all : IfSome walker (λ user. TakesAll world user steps)
+    pub told : IsWayTold (steps_by walker steps) member kind text

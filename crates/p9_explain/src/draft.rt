@@ -43,20 +43,29 @@ impl<A: Allocator + Copy> Draft<A> {
         } else {
             mend_of(alloc, self.text.as_str(), fault, self.before)?
         };
-        let text = self.text.as_str();
-        self.text = match mend {
-            Mend::Before(line) => {
-                self.before = self.before.saturating_add(1);
-                format!(in alloc; "{line}\n{text}")?
-            }
-            Mend::With(line) => with_line(alloc, text, fault.line, line.as_str())?,
-            Mend::Server(name) => {
-                let old = server_name_at(alloc, text, fault.line)?;
-                with_server(alloc, text, fault.line, old.as_str(), name.as_str())?
-            }
-            Mend::Without(line) => with_line(alloc, text, line, "")?,
-        };
+        if let Mend::Before(_) = &mend {
+            self.before = self.before.saturating_add(1);
+        }
+        self.text = mended(alloc, self.text.as_str(), fault.line, mend)?;
         Ok(())
+    }
+}
+
+// A text in which the line of this number is mended.
+fn mended<A: Allocator + Copy>(
+    alloc: A,
+    text: &str,
+    number: u64,
+    mend: Mend<A>,
+) -> Result<String<A>, NoMemory> {
+    match mend {
+        Mend::Before(line) => Ok(format!(in alloc; "{line}\n{text}")?),
+        Mend::With(line) => with_line(alloc, text, number, line.as_str()),
+        Mend::Server(name) => {
+            let old = server_name_at(alloc, text, number)?;
+            with_server(alloc, text, number, old.as_str(), name.as_str())
+        }
+        Mend::Without(line) => with_line(alloc, text, line, ""),
     }
 }
 
@@ -135,7 +144,18 @@ fn mend_of<A: Allocator + Copy>(
     before: u64,
 ) -> Result<Mend<A>, NoMemory> {
     let statements = statements(alloc, text)?;
-    let statements = statements.as_slice();
+    let mend = mend_among(alloc, statements.as_slice(), fault, before);
+    drop(statements);
+    mend
+}
+
+// How a bad line among these statements is mended.
+fn mend_among<A: Allocator + Copy>(
+    alloc: A,
+    statements: &[Statement<'_, A>],
+    fault: Fault,
+    before: u64,
+) -> Result<Mend<A>, NoMemory> {
     let words = words_at(statements, fault.line);
     match (fault.kind, words) {
         (Kind::World(LineFault::NoServer), ["dir" | "file", ..]) if before == 0 => {
@@ -151,11 +171,20 @@ fn mend_of<A: Allocator + Copy>(
             ["dir", path, ..],
         ) => Ok(Mend::With(format!(in alloc; "dir {path} 000 sys sys")?)),
         (Kind::First, _) => Ok(Mend::With(String::from_str(alloc, "cert 1")?)),
-        (Kind::Row, _) => match row_too_early(alloc, above(statements, fault.line), words)? {
-            Some(line) => Ok(Mend::Without(line)),
-            None => Ok(Mend::With(String::new(alloc))),
-        },
+        (Kind::Row, _) => mend_of_row(alloc, above(statements, fault.line), words),
         _ => Ok(Mend::With(String::new(alloc))),
+    }
+}
+
+// How a row that doesn't rise is mended, of these words and behind these statements.
+fn mend_of_row<A: Allocator + Copy>(
+    alloc: A,
+    above: &[Statement<'_, A>],
+    words: &[&str],
+) -> Result<Mend<A>, NoMemory> {
+    match row_too_early(alloc, above, words)? {
+        Some(line) => Ok(Mend::Without(line)),
+        None => Ok(Mend::With(String::new(alloc))),
     }
 }
 

@@ -118,7 +118,17 @@ fn push_fault<A: Allocator + Copy>(
     read: &str,
 ) -> Result<(), NoMemory> {
     let statements = statements(*text.allocator(), read)?;
-    let statements = statements.as_slice();
+    let pushed = push_fault_among(text, fault, statements.as_slice());
+    drop(statements);
+    pushed
+}
+
+// Adds what is wrong with a line among these statements, and what was expected.
+fn push_fault_among<A: Allocator + Copy>(
+    text: &mut String<A>,
+    fault: Fault,
+    statements: &[Statement<'_, A>],
+) -> Result<(), NoMemory> {
     let words = words_at(statements, fault.line);
     match fault.kind {
         Kind::World(kind) => {

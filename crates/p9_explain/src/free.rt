@@ -19,6 +19,13 @@ pub(crate) fn first_line<A: Allocator + Copy>(alloc: A, said: &str) -> Result<St
     }
 }
 
+/// The first line of what is said, which is dropped. The only error is that an allocation fails.
+pub(crate) fn into_first_line<A: Allocator + Copy>(said: String<A>) -> Result<String<A>, NoMemory>
+    ensures { IfOk result (λ line. string_bytes line ≡ first_line (string_bytes said)) }
+{
+    Ok(first_line(*said.allocator(), said.as_str())?)
+}
+
 /// Adds the free lines of what is said: hints, how a leak is mended, further leaks, and lines that are
 /// indented. The only error is that an allocation fails; a part of them may be there then.
 pub(crate) fn push_free<A: Allocator + Copy>(

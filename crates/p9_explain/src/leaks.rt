@@ -6,10 +6,10 @@ ghost use Rattle.p9_base.specs.NodeRef.{same_node};
 use crate::breach::breach_words;
 use crate::member::hidden_dir;
 use crate::source::Source;
-use crate::teller::push;
+use crate::teller::{add, push};
 use p9_base::{NoMemory, NodeRef};
 use p9_commands::NameSpace;
-use p9_judge::{Verdict, judge};
+use p9_judge::{Breach, Verdict, judge};
 use p9_space::MountTable;
 use p9_tree::Tree;
 use p9_world::World;
@@ -69,11 +69,27 @@ fn push_leak<T: Tree>(
     match judge(alloc, world, table)? {
         Verdict::Yes(_) => Ok(None),
         Verdict::No(breach) => {
-            let words = breach_words(alloc, source, world, &breach)?;
-            write!(text, "also: {words}")?;
-            Ok(Some(hidden_dir(world, breach.member)))
+            let pushed = push_also(text, source, world, &breach);
+            let dir = hidden_dir(world, breach.member);
+            drop(breach);
+            pushed?;
+            Ok(Some(dir))
         }
     }
+}
+
+// Adds a further breach in words.
+fn push_also<T: Tree>(
+    text: &mut String<T::Alloc>,
+    source: &Source<'_, T::Alloc>,
+    world: &World<T>,
+    breach: &Breach<T::Alloc>,
+) -> Result<(), NoMemory> {
+    push(text, "also: ")?;
+    add(
+        text,
+        breach_words(*text.allocator(), source, world, breach)?,
+    )
 }
 
 // The world in which a directory is not hidden.
@@ -110,8 +126,11 @@ fn others<A: Allocator + Copy>(
 ) -> Result<Vec<NodeRef, A>, AllocError>
     ensures { IfOk result (λ kept. kept.items ≡ filter (λ other. not (same_node other dir)) dirs.now) }
 {
-    dirs.iter()
-        .copied()
-        .filter(|other| *other != dir)
-        .collect(alloc)
+    let mut kept = Vec::new(alloc);
+    for other in dirs {
+        if *other != dir {
+            kept.push(*other)?;
+        }
+    }
+    Ok(kept)
 }

@@ -133,6 +133,16 @@ pub(crate) fn push_blanks<A: Allocator + Copy>(
     push(text, " ".repeat(*text.allocator(), count)?.as_str())
 }
 
+/// Adds words to a text, and drops them.
+pub(crate) fn add<A: Allocator + Copy>(
+    text: &mut String<A>,
+    words: String<A>,
+) -> Result<(), NoMemory>
+    ensures { OnOk result (string_bytes text.new ≡ string_bytes text.old ++ string_bytes words) }
+{
+    push(text, words.as_str())
+}
+
 /// Adds words to a text.
 pub(crate) fn push<A: Allocator + Copy>(text: &mut String<A>, words: &str) -> Result<(), NoMemory>
     ensures { OnOk result (string_bytes text.new ≡ string_bytes text.old ++ words.now) }

@@ -83,12 +83,13 @@ fn taken_by<A: Allocator + Copy>(
 ) -> Result<Vec<Step, A>, AllocError>
     ensures { IfOk result (λ told. told.items ≡ steps_by (Some user) steps.now) }
 {
-    steps
-        .iter()
-        .map(|step| Step {
+    let mut taken = Vec::new(alloc);
+    for step in steps {
+        taken.push(Step {
             name: step.name,
             member: step.member,
             user,
-        })
-        .collect(alloc)
+        })?;
+    }
+    Ok(taken)
 }

@@ -1,5 +1,5 @@
-//! Scripts over guards of both kinds of tree, with each request for memory refused in turn, over a
-//! heap that counts its bytes: a guard that is dropped gives back all that it was lent.
+//! Scripts over guards, with each request for memory refused in turn. They are over a
+//! heap that counts its bytes, and a guard that is dropped gives back all that it was lent.
 
 use crate::guard::again::play_again;
 use crate::guard::scripts::{SCRIPTS, Script};
@@ -9,7 +9,7 @@ use linked_list_allocator::LocalHeap;
 use p9_guard::Guard;
 use p9_index::IndexTree;
 use p9_testing::Refusing;
-use p9_tree::{PlainTree, Tree};
+use p9_tree::Tree;
 use std::alloc::{Allocator, Global};
 use std::process::Abort;
 
@@ -86,8 +86,8 @@ fn is_played<T: Tree, B: Allocator>(
     assert!(rt; refusals > if play == Play::Make { 20 } else { 4 });
 }
 
-// The same, over a tree of each kind.
-fn is_played_on_both<B: Allocator>(
+// The same, over the tree that the program has.
+fn is_played_in_index<B: Allocator>(
     rt: &impl Abort,
     alloc: Global,
     heap: &LocalHeap,
@@ -95,7 +95,6 @@ fn is_played_on_both<B: Allocator>(
     script: &Script,
     play: Play,
 ) {
-    is_played::<PlainTree<&Refusing<B>>, B>(rt, alloc, heap, memory, memory, script, play);
     is_played::<IndexTree<&Refusing<B>>, B>(rt, alloc, heap, memory, memory, script, play);
 }
 
@@ -105,7 +104,7 @@ fn a_guard_does_again_what_was_refused(rt: HostRuntime) {
     for script in &SCRIPTS {
         for play in [Play::Make, Play::Again, Play::List] {
             let memory = Refusing::new(&heap);
-            is_played_on_both(&rt, rt.alloc(), &heap, &memory, script, play);
+            is_played_in_index(&rt, rt.alloc(), &heap, &memory, script, play);
         }
     }
 }

@@ -6,9 +6,11 @@ use Rattle.p9_explain.proofs.breach.end_words.Goals as goal
 
 pub returns : goal.returns
 returns g c =
-    end-told c.args.world.now c.args.breach.now.member c.args.breach.now.kind
-    (string_bytes c.in_ok-format.field-0) (string_bytes c.in_ok-path.path)
-    (string_bytes c.in_ok-made-2.made) c.fault_words-fault.result.now (string_bytes c.in_ok-why-2.why)
-    c.as_str-2.result.now c.as_str-3.result.now c.in_ok-path.ensures c.in_ok-made-2.ensures
-    (c.fault_words-fault.ensures ∙ ap fault_words c.fault_of.ensures) c.in_ok-why-2.ensures
-    c.in_ok-format.ensures.ok
+    end-told c.args.teller.now.world.now c.args.breach.now.member c.args.breach.now.kind
+    (string_bytes c.in_ok-text.text) (string_bytes c.add.new.text) (string_bytes c.push.new.text)
+    (string_bytes c.push-2.new.text) (string_bytes c.add-2.new.text) (string_bytes c.push-3.new.text)
+    (string_bytes c.in_ok-made.made) c.fault_words.result.now (string_bytes c.in_ok-why.why)
+    c.in_ok-made.ensures.0 c.in_ok-why.ensures.0 c.in_ok-text.ensures c.in_ok-made.ensures.1
+    c.in_ok-add.ensures c.in_ok-push.ensures
+    (c.fault_words.ensures ∙ ap fault_words c.fault_of.ensures) c.in_ok-push-2.ensures
+    c.in_ok-why.ensures.1 c.in_ok-add-2.ensures c.in_ok-push-3.ensures

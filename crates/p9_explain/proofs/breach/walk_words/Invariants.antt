@@ -5,4 +5,4 @@ use Rattle.p9_explain.proofs.breach.walk_words.Given as goal
 
 -- the steps so far are told
 abbrev pub invariant-loop-step : goal.invariant-loop-step
-invariant-loop-step g l = IsWalkTold l.world (take l.step-index l.steps) (string_bytes l.text)
+invariant-loop-step g l = IsWalkTold l.teller.world.now (take l.step-index l.steps) (string_bytes l.text)
