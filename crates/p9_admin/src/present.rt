@@ -1,7 +1,7 @@
 //! What is kept in a folder, as it is now.
 
 use crate::PROGRAM;
-use p9_commands::{Needs, Prepared, Stop, prepare, print_stop};
+use p9_prepared::{Needs, Prepared, Stop, prepare, print_stop};
 use p9_folder::{Kept, go_on_with, read_kept};
 use p9_index::IndexTree;
 use p9_kept::Refused;

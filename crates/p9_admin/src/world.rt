@@ -5,7 +5,7 @@ use crate::present::{Present, read_present, report_stop};
 use crate::sink::write_text;
 use clap::ArgMatches;
 use p9_base::{NoMemory, NodeRef, Stop, lines, words};
-use p9_commands::{Bundle, BundleError, NameSpace, Needs, path_of, prepare, split_bundle};
+use p9_prepared::{Bundle, BundleError, NameSpace, Needs, path_of, prepare, split_bundle};
 use p9_index::IndexTree;
 use p9_pack::{Unfit, UnfitNode, is_same_world, unfit_nodes, write_world};
 use p9_shell::Failure;

@@ -6,14 +6,14 @@ use Rattle.p9_base.specs.Results.{and_then}
 use Rattle.p9_cert.specs.declared.gap.Gap.{Gap}
 use Rattle.p9_nsline.specs.Space.{Report}
 use Rattle.p9_commands.specs.Command.{CommandEnds, Printed, Works, Writes, admitted, gap_against}
-use Rattle.p9_commands.specs.Prepared.{IsReported, Prepared, Rejected, prepared_of, rejected_text}
-use Rattle.p9_commands.specs.Refusal.{IsUnverified, ReportsStop, refusal_line}
-use Rattle.p9_commands.specs.Report.{reports_text}
+use Rattle.p9_prepared.specs.Prepared.{IsReported, Prepared, Rejected, prepared_of, rejected_text}
+use Rattle.p9_prepared.specs.Refusal.{IsUnverified, ReportsStop, refusal_line}
+use Rattle.p9_prepared.specs.Report.{reports_text}
 use Rattle.p9_commands.specs.declared.command.Command.{Command}
 use Rattle.p9_commands.specs.declared.command.Command.TheVariants.{Play}
-use Rattle.p9_commands.specs.declared.prepared.Needs.{Needs}
-use Rattle.p9_commands.specs.declared.refusal.Refusal.{Refusal}
-use Rattle.p9_commands.specs.declared.refusal.Refusal.TheVariants.{Unverified}
+use Rattle.p9_prepared.specs.declared.prepared.Needs.{Needs}
+use Rattle.p9_prepared.specs.declared.refusal.Refusal.{Refusal}
+use Rattle.p9_prepared.specs.declared.refusal.Refusal.TheVariants.{Unverified}
 use Rattle.p9_base.specs.declared.stop.Stop.{Stop}
 use Rattle.p9_base.specs.declared.stop.Stop.TheVariants.{Refused, NoMemory}
 

@@ -6,7 +6,7 @@ use Rattle.p9_judge.specs.Verdict.{IsVerdict}
 use Rattle.p9_judge.specs.declared.verdict.Verdict.{Verdict}
 use Rattle.p9_judge.specs.declared.verdict.Verdict.TheVariants.{Yes, No}
 use Rattle.p9_commands.specs.Judgement.{IsPrinted, SaysNo, SaysYes, verdict_status, verdict_text}
-use Rattle.p9_commands.specs.NameSpace.{NameSpace}
+use Rattle.p9_prepared.specs.NameSpace.{NameSpace}
 
 pub judged : {A E : Type 0} (space : NameSpace) (verdict : Verdict A) (before after : List ℕ)
     (result : Result ℕ E) → IsTrue (is_table_given space.world.forest space.table) →

@@ -1,15 +1,9 @@
-mod Scripts
-mod Bundles
-mod Smalls
 mod Plays
-mod Worlds
 mod Prints
-pub mod Paths
-mod NameSpaces
 mod Machines
 mod Judgements
+mod Guards
 mod Ends
-mod Preparing
 mod Offers
 mod Alikes
 mod Chosen

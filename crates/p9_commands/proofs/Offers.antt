@@ -5,10 +5,11 @@ use Rattle.p9_base.specs.Results.{and_then}
 use Rattle.p9_guard.specs.Guard.{Guarded}
 use Rattle.p9_commands.proofs.Ends.{joined, moved}
 use Rattle.p9_commands.specs.Offer.{Offer, Serves, offer_in}
-use Rattle.p9_commands.specs.Prepared.{Prepared, Rejected, guard_in, with_reports}
-use Rattle.p9_commands.specs.Refusal.{IsStop, ReportsStop}
-use Rattle.p9_commands.specs.Report.{reports_text}
-use Rattle.p9_commands.specs.declared.refusal.Refusal.{Refusal}
+use Rattle.p9_commands.specs.Guards.{guard_in}
+use Rattle.p9_prepared.specs.Prepared.{Prepared, Rejected, with_reports}
+use Rattle.p9_prepared.specs.Refusal.{IsStop, ReportsStop}
+use Rattle.p9_prepared.specs.Report.{reports_text}
+use Rattle.p9_prepared.specs.declared.refusal.Refusal.{Refusal}
 use Rattle.p9_base.specs.declared.stop.Stop.{Stop}
 use Rattle.p9_base.specs.declared.stop.Stop.TheVariants.{Refused, NoMemory}
 

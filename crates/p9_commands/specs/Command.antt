@@ -6,17 +6,17 @@ use Rattle.p9_base.specs.Results.{and_then}
 use Rattle.p9_cert.specs.declared.gap.Gap.{Gap}
 use Rattle.p9_commands.specs.Judgement.{IsPrinted, SaysNo, SaysYes, verified_status, verified_text}
 use Rattle.p9_commands.specs.Listing.{table_text}
-use Rattle.p9_commands.specs.NameSpace.{exported}
+use Rattle.p9_commands.specs.Guards.{exported}
 use Rattle.p9_commands.specs.Play.{PlaysAll}
-use Rattle.p9_commands.specs.Prepared.{Prepared, Rejected, gap_in, prepared_of, rejected_text}
-use Rattle.p9_commands.specs.Refusal.{refusal_line}
-use Rattle.p9_commands.specs.Report.{reports_text}
+use Rattle.p9_prepared.specs.Prepared.{Prepared, Rejected, gap_in, prepared_of, rejected_text}
+use Rattle.p9_prepared.specs.Refusal.{refusal_line}
+use Rattle.p9_prepared.specs.Report.{reports_text}
 use Rattle.p9_commands.specs.Word.{command_of}
 use Rattle.p9_commands.specs.declared.command.Command.{Command}
 use Rattle.p9_commands.specs.declared.command.Command.TheVariants.{Play, Check, Verify, Ns}
-use Rattle.p9_commands.specs.declared.prepared.Needs.{Needs}
-use Rattle.p9_commands.specs.declared.prepared.Needs.TheVariants.{Nothing, Certificate}
-use Rattle.p9_commands.specs.declared.refusal.Refusal.TheVariants.{Unverified}
+use Rattle.p9_prepared.specs.declared.prepared.Needs.{Needs}
+use Rattle.p9_prepared.specs.declared.prepared.Needs.TheVariants.{Nothing, Certificate}
+use Rattle.p9_prepared.specs.declared.refusal.Refusal.TheVariants.{Unverified}
 
 -- What is asked.
 

@@ -13,7 +13,7 @@ use Rattle.p9_judge.specs.declared.breach.BreachKind.{BreachKind}
 use Rattle.p9_judge.specs.declared.breach.Step.{Step}
 use Rattle.p9_judge.specs.declared.verdict.Verdict.{Verdict}
 use Rattle.p9_judge.specs.declared.verdict.Verdict.TheVariants.{Yes, No}
-use Rattle.p9_commands.specs.NameSpace.{NameSpace, gap_over}
+use Rattle.p9_prepared.specs.NameSpace.{NameSpace, gap_over}
 
 -- this text is printed, and the exit status is this one
 abbrev pub IsPrinted : (status : ℕ) (text before after : List ℕ) (result : ℕ) → Type 0

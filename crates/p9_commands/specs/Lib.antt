@@ -1,14 +1,7 @@
-pub mod Script
-pub mod Bundle
 pub mod Play
-pub mod Refusal
-pub mod Small
-pub mod NameSpace
-pub mod Report
-pub mod Path
 pub mod Listing
 pub mod Judgement
-pub mod Prepared
+pub mod Guards
 pub mod Word
 pub mod Command
 pub mod Offer

@@ -5,7 +5,7 @@ use Rattle.p9_base.specs.declared.node_ref.NodeRef.{NodeRef}
 use Rattle.p9_space.specs.declared.row.Member.{Member}
 use Rattle.p9_space.specs.Table.{MountRow}
 use Rattle.p9_world.specs.World.{World}
-use Rattle.p9_commands.specs.Path.{node_path}
+use Rattle.p9_prepared.specs.Path.{node_path}
 
 -- the first member replaces what was there; `c` permits creation
 abbrev pub first_flags : Bool → List ℕ

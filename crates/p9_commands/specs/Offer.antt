@@ -3,10 +3,11 @@ use Rattle.std.specs.Prelude.{◌≡◌, ℕ, List, ◌++◌, Option, Some, None
 use Rattle.p9_base.specs.Results.{and_then}
 use Rattle.p9_guard.specs.Guard.{Guarded}
 use Rattle.p9_nsline.specs.Space.{Report}
-use Rattle.p9_commands.specs.Prepared.{Prepared, Rejected, guard_in, prepared_of, rejected_text}
-use Rattle.p9_commands.specs.Prepared.{with_reports}
-use Rattle.p9_commands.specs.Report.{reports_text}
-use Rattle.p9_commands.specs.declared.prepared.Needs.TheVariants.{Certificate}
+use Rattle.p9_commands.specs.Guards.{guard_in}
+use Rattle.p9_prepared.specs.Prepared.{Prepared, Rejected, prepared_of, rejected_text}
+use Rattle.p9_prepared.specs.Prepared.{with_reports}
+use Rattle.p9_prepared.specs.Report.{reports_text}
+use Rattle.p9_prepared.specs.declared.prepared.Needs.TheVariants.{Certificate}
 
 -- a guard that is to be served, and what failed in the making of its name space
 pub record Offer : Type 0 where

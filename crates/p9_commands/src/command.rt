@@ -3,15 +3,16 @@
 ghost use Rattle.std.specs.Prelude.{◌≡◌, IfOk, OnErr};
 ghost use Rattle.p9_commands.specs.Command.{CommandEnds, IsUnchanged, WordEnds, Works};
 ghost use Rattle.p9_commands.specs.Command.{asked, gap_against, needs_of, printed};
-ghost use Rattle.p9_commands.specs.Prepared.{gap_in};
+ghost use Rattle.p9_prepared.specs.Prepared.{gap_in};
 
-use crate::judgement::print_verified;
+use crate::guards::{export, guard_over};
+use crate::judgement::{check, print_verified};
+use crate::listing::list;
 use crate::play::play_events;
-use crate::prepared::{Needs, Prepared, prepare_and_report};
-use crate::refusal::print_stop;
-use crate::status::{BAD_COMMAND_LINE, DONE, REFUSED};
 use p9_base::NoMemory;
 use p9_index::IndexTree;
+use p9_prepared::status::{BAD_COMMAND_LINE, DONE, REFUSED};
+use p9_prepared::{Needs, Prepared, prepare_and_report, print_stop};
 use p9_tree::Tree;
 use std::alloc::Allocator;
 use std::str::FromStr;
@@ -110,7 +111,7 @@ pub fn run_command_over<T: Tree>(
 /// Runs a command over its input, and returns the exit status. What it prints is appended to `out`,
 /// and what it reports is appended to `err`, each report as a line.
 ///
-/// The input is prepared as [`prepare`](crate::prepare) says. What failed in its namespace file is
+/// The input is prepared as [`prepare`](p9_prepared::prepare) says. What failed in its namespace file is
 /// reported as `ns:L: TEXT`, where `L` is the number of a line of that section, before any other
 /// report but a fault that is found earlier. The first fault is reported as [`Refusal::text`] says;
 /// the status is 1 then, and `out` is unchanged. `verify` refuses an input without a certificate,
@@ -127,7 +128,7 @@ pub fn run_command_over<T: Tree>(
 ///
 /// Where an allocation fails, it returns [`NoMemory`], and `out` and `err` are as before.
 ///
-/// [`Refusal::text`]: crate::Refusal::text
+/// [`Refusal::text`]: p9_prepared::Refusal::text
 pub fn run<A: Allocator + Copy>(
     command: Command,
     input: &[u8],
@@ -194,7 +195,7 @@ fn work<T: Tree>(
     match command {
         Command::Play => play(prepared, out, err),
         Command::Check => {
-            let status = prepared.space.check(out);
+            let status = check(&prepared.space, out);
             drop(prepared);
             status
         }
@@ -204,7 +205,7 @@ fn work<T: Tree>(
             status
         }
         Command::Ns => {
-            let status = prepared.space.list(out);
+            let status = list(&prepared.space, out);
             drop(prepared);
             status
         }
@@ -226,14 +227,14 @@ fn play<T: Tree>(
         events,
     } = prepared;
     let Some(certificate) = certificate else {
-        let mut export = space.export();
+        let mut export = export(space);
         let played = play_events(&mut export, events.as_slice(), out);
         drop(export);
         drop(events);
         played?;
         return Ok(DONE);
     };
-    match space.guard(certificate) {
+    match guard_over(space, certificate) {
         Ok(mut guard) => {
             let played = play_events(&mut guard, events.as_slice(), out);
             drop(guard);

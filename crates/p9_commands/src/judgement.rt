@@ -1,19 +1,33 @@
 //! Judgements, as they are printed.
 
-ghost use Rattle.std.specs.Prelude.{IfOk};
-ghost use Rattle.p9_commands.specs.Judgement.{IsPrinted, verdict_status, verdict_text};
-ghost use Rattle.p9_commands.specs.Judgement.{verified_status, verified_text};
+ghost use Rattle.std.specs.Prelude.{◌⊎◌, IfOk};
+ghost use Rattle.p9_commands.specs.Judgement.{IsPrinted, SaysNo, SaysYes, verdict_status};
+ghost use Rattle.p9_commands.specs.Judgement.{verdict_text, verified_status, verified_text};
 
-use crate::line::print_line;
-use crate::status::{DONE, REFUSED};
 use p9_base::NoMemory;
 use p9_cert::{Gap, write_cert};
-use p9_judge::Verdict;
+use p9_judge::{Verdict, judge};
+use p9_prepared::status::{DONE, REFUSED};
+use p9_prepared::{NameSpace, print_line};
+use p9_tree::Tree;
 use std::alloc::Allocator;
 
-/// Prints `yes` and the certificate, or `no` and the breach, and returns the exit status. Where an
-/// allocation fails, a part of it may be printed.
-pub(crate) fn print_verdict<A: Allocator + Copy>(
+/// Judges a name space, and prints `yes` and a certificate, or `no` and a breach. Returns the exit
+/// status. Where an allocation fails, a part of it may be printed.
+pub(crate) fn check<T: Tree>(
+    space: &NameSpace<T>,
+    out: &mut Vec<u8, T::Alloc>,
+) -> Result<u8, NoMemory>
+    ensures { IfOk result (λ status. SaysYes space.now out.old.items out.new.items status
+        ⊎ SaysNo space.now out.old.items out.new.items status) }
+{
+    let verdict = judge(*out.allocator(), &space.world, &space.table)?;
+    print_verdict(&verdict, out)
+}
+
+// Prints `yes` and the certificate, or `no` and the breach, and returns the exit status. Where an
+// allocation fails, a part of it may be printed.
+fn print_verdict<A: Allocator + Copy>(
     verdict: &Verdict<A>,
     out: &mut Vec<u8, A>,
 ) -> Result<u8, NoMemory>

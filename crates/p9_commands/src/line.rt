@@ -1,20 +1,11 @@
-//! Lines that are printed.
+//! Lines of digits that are printed.
 
 ghost use Rattle.std.specs.Prelude.{◌≡◌, ◌≤◌, ◌*◌, ◌++◌, ◌∷◌, [], OnOk, length};
 ghost use Rattle.hex.specs.Hex.{encode_lower};
 
 use p9_base::NoMemory;
+use p9_prepared::print_bytes;
 use std::alloc::Allocator;
-
-/// Prints a line. Where an allocation fails, a part of it may be there.
-pub(crate) fn print_line<A: Allocator + Copy>(
-    line: &str,
-    out: &mut Vec<u8, A>,
-) -> Result<(), NoMemory>
-    ensures { OnOk result (out.new.items ≡ out.old.items ++ (line.now ++ 10 ∷ [])) }
-{
-    print_bytes(line.as_bytes(), out)
-}
 
 /// Prints bytes as a line of lower case hexadecimal digits. Where an allocation fails, a part of it
 /// may be there. `digits` is a buffer with room for twice as many bytes, whose content is lost.
@@ -30,13 +21,4 @@ pub(crate) fn print_hex<A: Allocator + Copy>(
     let line = &mut digits[..2 * bytes.len()];
     hex::encode_to_slice(bytes, line).unwrap();
     print_bytes(line, out)
-}
-
-// Prints bytes, and a newline.
-fn print_bytes<A: Allocator + Copy>(bytes: &[u8], out: &mut Vec<u8, A>) -> Result<(), NoMemory>
-    ensures { OnOk result (out.new.items ≡ out.old.items ++ (bytes.now ++ 10 ∷ [])) }
-{
-    out.extend_from_slice(bytes)?;
-    out.push(b'\n')?;
-    Ok(())
 }

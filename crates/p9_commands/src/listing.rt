@@ -1,18 +1,33 @@
 //! The mount table, printed as binds.
 
-ghost use Rattle.std.specs.Prelude.{◌≡◌, ◌++◌, OnOk};
+ghost use Rattle.std.specs.Prelude.{◌≡◌, ◌++◌, IfOk, OnOk};
+ghost use Rattle.p9_commands.specs.Judgement.{IsPrinted};
 ghost use Rattle.p9_commands.specs.Listing.{bind_line, first_flags, later_flags, members_text};
 ghost use Rattle.p9_commands.specs.Listing.{table_text};
 
-use crate::path::print_path;
 use p9_base::{NoMemory, NodeRef};
+use p9_prepared::status::DONE;
+use p9_prepared::{NameSpace, print_path};
 use p9_space::{Member, MountTable};
 use p9_tree::Tree;
 use p9_world::World;
 
-/// Prints a mount table, a line for each member of each row. Where an allocation fails, a part of
-/// it may be there.
-pub(crate) fn print_table<T: Tree>(
+/// Prints the mount table of a name space, a line for each member of each row. Returns the exit status.
+/// Where an allocation fails, a part of it may be printed.
+pub(crate) fn list<T: Tree>(
+    space: &NameSpace<T>,
+    out: &mut Vec<u8, T::Alloc>,
+) -> Result<u8, NoMemory>
+    ensures { IfOk result (IsPrinted 0 (table_text space.now.world space.now.table) out.old.items
+        out.new.items) }
+{
+    print_table(&space.world, &space.table, out)?;
+    Ok(DONE)
+}
+
+// Prints a mount table, a line for each member of each row. Where an allocation fails, a part of
+// it may be there.
+fn print_table<T: Tree>(
     world: &World<T>,
     table: &MountTable<T::Alloc>,
     out: &mut Vec<u8, T::Alloc>,

@@ -3,25 +3,25 @@
 ghost use Rattle.std.specs.Prelude.{◌≡◌, IfOk, OnErr};
 ghost use Rattle.p9_commands.specs.Offer.{Serves, offer_of};
 
-use crate::prepared::{Needs, prepare_and_report};
-use crate::refusal::print_stop;
+use crate::guards::guard_of;
 use p9_base::NoMemory;
 use p9_guard::Guard;
 use p9_index::IndexTree;
+use p9_prepared::{Needs, prepare_and_report, print_stop};
 use std::alloc::Allocator;
 
 /// The guard over the name space of an input, by its certificate and without sessions, for a
 /// server: that which [`Guard::new`] makes of the world, the mount table and the certificate. What
 /// is reported is appended to `err`, each report as a line.
 ///
-/// The input is prepared as [`prepare`](crate::prepare) says, with a certificate. What failed in its
+/// The input is prepared as [`prepare`](p9_prepared::prepare) says, with a certificate. What failed in its
 /// namespace file is reported as `ns:L: TEXT`, where `L` is the number of a line of that section.
 /// The first fault is reported as [`Refusal::text`] says, and the result is `None` then. The script
 /// is read, and not played. The last fault is a gap of the certificate: `cert: GAP`.
 ///
 /// Where an allocation fails, it returns [`NoMemory`], and `err` is as before.
 ///
-/// [`Refusal::text`]: crate::Refusal::text
+/// [`Refusal::text`]: p9_prepared::Refusal::text
 pub fn served_guard<A: Allocator + Copy>(
     input: &[u8],
     err: &mut Vec<u8, A>,
@@ -47,7 +47,7 @@ fn offer<A: Allocator + Copy>(
     let Some(prepared) = prepare_and_report(input, Needs::Certificate, err)? else {
         return Ok(None);
     };
-    match prepared.guard() {
+    match guard_of(prepared) {
         Ok(guard) => Ok(Some(guard)),
         Err(stop) => {
             print_stop(stop, err)?;

@@ -6,10 +6,11 @@ ghost use Rattle.p9_commands.specs.Play.{Plays, PlaysAll};
 ghost use Rattle.p9_export.specs.Event.{event_view};
 ghost use Rattle.p9_wire.specs.Frame.{msize_max};
 
-use crate::line::{print_hex, print_line};
+use crate::line::print_hex;
 use crate::machine::Machine;
 use p9_base::NoMemory;
 use p9_export::{Event, OpenError, is_frame};
+use p9_prepared::print_line;
 use p9_wire::MSIZE_MAX;
 use std::alloc::Allocator;
 

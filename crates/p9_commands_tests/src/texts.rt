@@ -1,7 +1,8 @@
 //! The texts of errors.
 
 use p9_cert::ReadError;
-use p9_commands::{BadCommandLine, BundleError, ScriptError};
+use p9_commands::BadCommandLine;
+use p9_prepared::{BundleError, ScriptError};
 use p9_world::{LineFault, WorldError};
 use std::alloc::Global;
 use std::process::Abort;

@@ -3,8 +3,8 @@ use Rattle.std.proofs.Common.{◌≡◌, ℕ, List, [], ◌++◌, Option, Some, 
 use Rattle.std.specs.Prelude.{codes}
 use Rattle.p9_base.specs.declared.node_ref.NodeRef.{NodeRef}
 use Rattle.p9_cert.specs.Policy.{policy_of}
-use Rattle.p9_commands.specs.NameSpace.{NameSpace}
-use Rattle.p9_commands.specs.Path.{path_of}
+use Rattle.p9_prepared.specs.NameSpace.{NameSpace}
+use Rattle.p9_prepared.specs.Path.{path_of}
 use Rattle.p9_fixed.specs.Change.{first_change}
 use Rattle.p9_fixed.specs.declared.change.Change.{Change}
 use Rattle.p9_shown.specs.Text.{shown_text}

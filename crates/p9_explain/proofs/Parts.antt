@@ -2,8 +2,8 @@
 use Rattle.std.proofs.Common.{◌≡◌, ℕ, ◌≤◌, List, [], ◌∷◌, ◌++◌, append_assoc, get_or, length, sym, ap, ◌∙◌, arith}
 use Rattle.std.specs.Prelude.{codes}
 use Rattle.p9_base.specs.declared.node_ref.NodeRef.{NodeRef}
-use Rattle.p9_commands.specs.Refusal.{refusal_text}
-use Rattle.p9_commands.specs.declared.refusal.Refusal.{Refusal}
+use Rattle.p9_prepared.specs.Refusal.{refusal_text}
+use Rattle.p9_prepared.specs.declared.refusal.Refusal.{Refusal}
 use Rattle.p9_judge.specs.declared.breach.Step.{Step}
 use Rattle.p9_shown.specs.Text.{shown_text}
 use Rattle.p9_space.specs.Place.{root_place}

@@ -2,8 +2,8 @@
 use Rattle.std.proofs.Common.{ℕ, IfOk, List, Result, Ok, Err, subst, sym}
 use Rattle.p9_base.specs.declared.stop.Stop.{Stop}
 use Rattle.p9_base.specs.declared.stop.Stop.TheVariants.{Refused, NoMemory}
-use Rattle.p9_commands.specs.Prepared.{IsPrepareErrorBy, Prepared, Rejected}
-use Rattle.p9_commands.specs.declared.refusal.Refusal.{Refusal}
+use Rattle.p9_prepared.specs.Prepared.{IsPrepareErrorBy, Prepared, Rejected}
+use Rattle.p9_prepared.specs.declared.refusal.Refusal.{Refusal}
 use Rattle.p9_nsline.specs.Space.{Report}
 use Rattle.p9_explain.specs.Explained.{IsExplained, IsRefusalTold}
 

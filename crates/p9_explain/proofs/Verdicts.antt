@@ -12,7 +12,7 @@ use Rattle.p9_judge.specs.declared.verdict.Verdict.TheVariants.{Yes, No}
 use Rattle.p9_judge.specs.declared.breach.Breach.{Breach}
 use Rattle.p9_space.specs.Given.{is_table_given}
 use Rattle.p9_commands.specs.Judgement.{no_text, yes_text}
-use Rattle.p9_commands.specs.Prepared.{Prepared, gap_in}
+use Rattle.p9_prepared.specs.Prepared.{Prepared, gap_in}
 use Rattle.p9_explain.specs.Change.{IsReachTold}
 use Rattle.p9_explain.specs.Claim.{claim_text}
 use Rattle.p9_explain.specs.Explained.{IsFurtherTold, IsRestTold, IsVerdict, yes_status}

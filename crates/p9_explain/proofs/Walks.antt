@@ -4,7 +4,7 @@ use Rattle.std.proofs.Common.{sym, ap, ◌∙◌, subst, append_assoc, append-ni
 use Rattle.std.proofs.lemmas.List.{take_all, take_more}
 use Rattle.std.specs.Prelude.{codes}
 use Rattle.p9_base.specs.declared.node_ref.NodeRef.{NodeRef}
-use Rattle.p9_commands.specs.Path.{path_of}
+use Rattle.p9_prepared.specs.Path.{path_of}
 use Rattle.p9_judge.specs.declared.breach.BreachKind.{BreachKind}
 use Rattle.p9_judge.specs.declared.breach.Step.{Step}
 use Rattle.p9_shown.specs.Text.{shown_text}

@@ -1,7 +1,7 @@
 -- What an input claims: of which listed users, and about which hidden directories.
 use Rattle.std.specs.Prelude.{ℕ, ◌==◌, List, [], ◌∷◌, ◌++◌, codes, length, if◌then◌else◌}
 use Rattle.p9_base.specs.declared.node_ref.NodeRef.{NodeRef}
-use Rattle.p9_commands.specs.Path.{path_of}
+use Rattle.p9_prepared.specs.Path.{path_of}
 use Rattle.p9_shown.specs.Text.{shown_text}
 use Rattle.p9_world.specs.World.{World}
 

@@ -3,11 +3,11 @@
 use Rattle.std.specs.Prelude.{◌≡◌, ◌⊎◌, ℕ, List, [], ◌++◌, Option, Some, None, Result, Ok, Err, codes}
 use Rattle.p9_base.specs.declared.stop.Stop.{Stop}
 use Rattle.p9_base.specs.declared.stop.Stop.TheVariants.{Refused, NoMemory}
-use Rattle.p9_commands.specs.declared.refusal.Refusal.{Refusal}
+use Rattle.p9_prepared.specs.declared.refusal.Refusal.{Refusal}
 use Rattle.p9_commands.specs.Judgement.{SaysNo, SaysYes}
 use Rattle.p9_cert.specs.declared.gap.Gap.{Gap}
-use Rattle.p9_commands.specs.Prepared.{Prepared, Rejected, gap_in}
-use Rattle.p9_commands.specs.Refusal.{refusal_line}
+use Rattle.p9_prepared.specs.Prepared.{Prepared, Rejected, gap_in}
+use Rattle.p9_prepared.specs.Refusal.{refusal_line}
 use Rattle.p9_explain.specs.Certificate.{IsCertificateTold}
 use Rattle.p9_explain.specs.Change.{IsReachTold}
 use Rattle.p9_explain.specs.Claim.{claim_text}

@@ -12,7 +12,7 @@ use Rattle.p9_judge.specs.declared.breach.Step.{Step}
 use Rattle.p9_shown.specs.Text.{shown_text}
 use Rattle.p9_space.specs.Place.{root_place}
 use Rattle.p9_world.specs.World.{World}
-use Rattle.p9_commands.specs.Path.{path_of}
+use Rattle.p9_prepared.specs.Path.{path_of}
 use Rattle.p9_explain.specs.Free.{AreFree, first_line}
 use Rattle.p9_explain.specs.Passing.{passing_text}
 use Rattle.p9_explain.specs.Walker.{TakesAll, steps_by}

@@ -12,7 +12,7 @@ use crate::right::{Alteration, TO_USE, altering_class, class_of};
 use crate::source::Source;
 use crate::teller::{Teller, push, shown_path};
 use p9_base::{NoMemory, NodeRef, User};
-use p9_commands::{Needs, Prepared, Stop, prepare};
+use p9_prepared::{Needs, Prepared, Stop, prepare};
 use p9_fixed::{Change, ChangeKind, changer};
 use p9_shown::shown;
 use p9_tree::Tree;

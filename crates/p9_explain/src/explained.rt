@@ -2,8 +2,8 @@
 
 ghost use Rattle.std.specs.Prelude.{◌≡◌, ◌++◌, ℕ, IfOk, List, OnErr};
 ghost use Rattle.std.specs.String.{string_bytes};
-ghost use Rattle.p9_commands.specs.Prepared.{prepared_of};
-ghost use Rattle.p9_commands.specs.declared.prepared.Needs.TheVariants.{Nothing};
+ghost use Rattle.p9_prepared.specs.Prepared.{prepared_of};
+ghost use Rattle.p9_prepared.specs.declared.prepared.Needs.TheVariants.{Nothing};
 ghost use Rattle.p9_explain.specs.Change.{IsKindTold, IsReachTold, directories, reach_text};
 ghost use Rattle.p9_explain.specs.Claim.{claim_text};
 ghost use Rattle.p9_explain.specs.Explained.{IsExplained, IsFurtherTold, IsRefusal, IsRefusalTold};
@@ -22,8 +22,8 @@ use crate::source::Source;
 use crate::teller::{Teller, push};
 use p9_base::{NoMemory, NodeRef};
 use p9_cert::{Certificate, Gap};
-use p9_commands::status::{DONE, REFUSED};
-use p9_commands::{NameSpace, Needs, Prepared, Refusal, Stop, prepare};
+use p9_prepared::status::{DONE, REFUSED};
+use p9_prepared::{NameSpace, Needs, Prepared, Refusal, Stop, prepare};
 use p9_fixed::first_change;
 use p9_judge::{Verdict, judge};
 use p9_tree::Tree;
@@ -45,7 +45,7 @@ use std::alloc::Allocator;
 ///
 /// What is said of the input's own certificate follows: that it is accepted, or its first gap in words;
 /// and hints, each with its line. Where the input has a fault there is none of this: the first is
-/// reported as [`Refusal::text`](p9_commands::Refusal::text) says, and all bad lines are listed, each
+/// reported as [`Refusal::text`](p9_prepared::Refusal::text) says, and all bad lines are listed, each
 /// with what was expected there. The status is 1.
 ///
 /// Where an allocation fails, it returns [`NoMemory`], and `out` is as before.

@@ -8,7 +8,7 @@ use crate::member::hidden_dir;
 use crate::source::Source;
 use crate::teller::{add, push};
 use p9_base::{NoMemory, NodeRef};
-use p9_commands::NameSpace;
+use p9_prepared::NameSpace;
 use p9_judge::{Breach, Verdict, judge};
 use p9_space::MountTable;
 use p9_tree::Tree;

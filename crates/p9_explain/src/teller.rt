@@ -2,7 +2,7 @@
 
 ghost use Rattle.std.specs.Prelude.{◌≡◌, ◌++◌, IfOk, OnOk};
 ghost use Rattle.std.specs.String.{string_bytes};
-ghost use Rattle.p9_commands.specs.Path.{path_of};
+ghost use Rattle.p9_prepared.specs.Path.{path_of};
 ghost use Rattle.p9_shown.specs.Text.{shown_text};
 
 use crate::bound::bind_line;
@@ -10,7 +10,7 @@ use crate::head::Section;
 use crate::member::hidden_dir;
 use crate::source::Source;
 use p9_base::{NoMemory, NodeRef};
-use p9_commands::path_of;
+use p9_prepared::path_of;
 use p9_shown::{AsShown, push_shown, shown};
 use p9_tree::{Node, Tree};
 use p9_world::World;

@@ -18,9 +18,9 @@ use Rattle.p9_base.specs.Statement.{statements_of}
 use Rattle.p9_wire.specs.Frame.{IsBytes}
 use Rattle.p9_step.specs.Event.{Event, Open, Message, Close, IsEvent}
 use Rattle.p9_guard.proofs.Promises.{are_bytes}
-use Rattle.p9_commands.specs.Script.{close_event_at, close_event_of, event_of, frame_of_hex}
-use Rattle.p9_commands.specs.Script.{message_event_at, message_event_of, script_of, short_number}
-use Rattle.p9_commands.specs.Script.{with_event, with_statement}
+use Rattle.p9_prepared.specs.Script.{close_event_at, close_event_of, event_of, frame_of_hex}
+use Rattle.p9_prepared.specs.Script.{message_event_at, message_event_of, script_of, short_number}
+use Rattle.p9_prepared.specs.Script.{with_event, with_statement}
 use Rattle.p9_input_laws.proofs.Results.{and_then-ok, same-ok}
 
 -- a number below a limit

@@ -19,22 +19,23 @@ use Rattle.p9_guard.specs.Served.{served}
 use Rattle.p9_guard_laws.specs.Alike.{AreAlike}
 use Rattle.p9_guard_laws.proofs.Begins.{alike_verified}
 use Rattle.p9_guard.proofs.Sentences.{starts-guarded}
-use Rattle.p9_commands.specs.Bundle.{Texts, bundle_of}
+use Rattle.p9_prepared.specs.Bundle.{Texts, bundle_of}
 use Rattle.p9_commands.specs.Command.{CommandEnds, Printed, WordEnds, asked, needs_of}
 use Rattle.p9_commands.specs.Laws.{AlikeWorldsPlayAlike}
-use Rattle.p9_commands.specs.NameSpace.{NameSpace, environment_of, exported, gap_over, name_space}
-use Rattle.p9_commands.specs.NameSpace.{or_bad_operation, space_in, space_over, world_in}
+use Rattle.p9_commands.specs.Guards.{exported}
+use Rattle.p9_prepared.specs.NameSpace.{NameSpace, environment_of, gap_over, name_space}
+use Rattle.p9_prepared.specs.NameSpace.{or_bad_operation, space_in, space_over, world_in}
 use Rattle.p9_commands.specs.Play.{play_text}
-use Rattle.p9_commands.specs.Prepared.{Prepared, certificate_in, gap_in, opened, prepared_of}
-use Rattle.p9_commands.specs.Prepared.{rest_in, script_in, with_reports}
-use Rattle.p9_commands.specs.Refusal.{or_refused}
-use Rattle.p9_commands.specs.Script.{script_of}
-use Rattle.p9_commands.specs.Small.{small_world}
+use Rattle.p9_prepared.specs.Prepared.{Prepared, certificate_in, gap_in, opened, prepared_of}
+use Rattle.p9_prepared.specs.Prepared.{rest_in, script_in, with_reports}
+use Rattle.p9_prepared.specs.Refusal.{or_refused}
+use Rattle.p9_prepared.specs.Script.{script_of}
+use Rattle.p9_prepared.specs.Small.{small_world}
 use Rattle.p9_commands.specs.declared.command.Command.TheVariants.{Play}
-use Rattle.p9_commands.specs.declared.prepared.Needs.{Needs}
-use Rattle.p9_commands.specs.declared.refusal.Refusal.{Refusal}
-use Rattle.p9_commands.specs.declared.refusal.Refusal.TheVariants.{BadEvent, BadOperation}
-use Rattle.p9_commands.specs.declared.refusal.Refusal.TheVariants.{BadSection, BadWorld}
+use Rattle.p9_prepared.specs.declared.prepared.Needs.{Needs}
+use Rattle.p9_prepared.specs.declared.refusal.Refusal.{Refusal}
+use Rattle.p9_prepared.specs.declared.refusal.Refusal.TheVariants.{BadEvent, BadOperation}
+use Rattle.p9_prepared.specs.declared.refusal.Refusal.TheVariants.{BadSection, BadWorld}
 use Rattle.p9_input_laws.specs.Laws.{AlikeInputsAreExportedAlike, IsWellFormedInput}
 use Rattle.p9_input_laws.specs.Laws.{MeetThePremises, PlayAlike, PreparedInputsAreWellFormed}
 use Rattle.p9_input_laws.specs.Laws.{play_word}

@@ -12,7 +12,7 @@ use Rattle.p9_tree.specs.Node.{IsTellable, Node}
 use Rattle.p9_tree.specs.Server.{Server, WellFormed, added, rooted}
 use Rattle.p9_tree.proofs.Added.{WellFormed-added}
 use Rattle.p9_tree.proofs.Rooted.{WellFormed-rooted}
-use Rattle.p9_commands.specs.Small.{directory_mode, file_mode, glendas, small, small_world}
+use Rattle.p9_prepared.specs.Small.{directory_mode, file_mode, glendas, small, small_world}
 use Rattle.p9_input_laws.proofs.Worlds.{IsRead}
 
 is_user-glenda : IsTrue (is_user (codes "glenda"))

@@ -39,9 +39,10 @@ use Rattle.p9_guard.specs.Marks.{are_permitted}
 use Rattle.p9_guard.specs.Sentence.{CanHappen}
 use Rattle.p9_guard.specs.Served.{served}
 use Rattle.p9_commands.specs.Play.{play_text}
-use Rattle.p9_commands.specs.NameSpace.{exported, gap_over}
-use Rattle.p9_commands.specs.Prepared.{Prepared, prepared_of}
-use Rattle.p9_commands.specs.declared.prepared.Needs.TheVariants.{Nothing}
+use Rattle.p9_commands.specs.Guards.{exported}
+use Rattle.p9_prepared.specs.NameSpace.{gap_over}
+use Rattle.p9_prepared.specs.Prepared.{Prepared, prepared_of}
+use Rattle.p9_prepared.specs.declared.prepared.Needs.TheVariants.{Nothing}
 use Rattle.p9_input_laws.specs.Lives.{left_after_all}
 use Rattle.p9_input_laws.specs.NeverThere.{outer_world}
 use Rattle.p9_input_laws.specs.Witness.{AWorldIsOtherWithoutInsides, TwoLivesMeetThePremises}

@@ -2,8 +2,8 @@
 use Rattle.std.proofs.Common.{◌∙◌, ◌++◌, ℕ, List, [], Option, Result, Ok, Err, ap, append-nil}
 use Rattle.p9_base.specs.declared.node_ref.NodeRef.{NodeRef}
 use Rattle.p9_cert.specs.declared.gap.Gap.{Gap}
-use Rattle.p9_commands.specs.NameSpace.{NameSpace}
-use Rattle.p9_commands.specs.Prepared.{Prepared, Rejected, gap_in}
+use Rattle.p9_prepared.specs.NameSpace.{NameSpace}
+use Rattle.p9_prepared.specs.Prepared.{Prepared, Rejected, gap_in}
 use Rattle.p9_map.specs.Picture.{IsDrawn, IsMapped, IsPicture}
 use Rattle.p9_inputs.specs.Added.{Adds}
 

@@ -4,9 +4,9 @@ use Rattle.std.proofs.Common.{append-nil}
 use Rattle.std.specs.Prelude.{MatchOption, find}
 use Rattle.std.specs.Str.{bytes_eq}
 use Rattle.p9_space.specs.Rights.{Who}
-use Rattle.p9_commands.specs.NameSpace.{NameSpace}
-use Rattle.p9_commands.specs.Prepared.{Prepared, Rejected, rejected_text}
-use Rattle.p9_commands.specs.Report.{reports_text}
+use Rattle.p9_prepared.specs.NameSpace.{NameSpace}
+use Rattle.p9_prepared.specs.Prepared.{Prepared, Rejected, rejected_text}
+use Rattle.p9_prepared.specs.Report.{reports_text}
 use Rattle.p9_view.specs.Tree.{IsInputShown, IsRefused, IsShown, IsShownTo, unlisted_text, who_in}
 use Rattle.p9_inputs.specs.Added.{Adds}
 

@@ -3,8 +3,8 @@ use Rattle.std.specs.Prelude.{◌≡◌, ℕ, List, Option, Some, None, codes, i
 use Rattle.std.specs.Str.{bytes_eq}
 use Rattle.clap.specs.Matches.{first_value}
 use Rattle.clap.specs.declared.parser.matches.Found.{Found}
-use Rattle.p9_commands.specs.Prepared.{prepared_of}
-use Rattle.p9_commands.specs.declared.prepared.Needs.TheVariants.{Nothing}
+use Rattle.p9_prepared.specs.Prepared.{prepared_of}
+use Rattle.p9_prepared.specs.declared.prepared.Needs.TheVariants.{Nothing}
 use Rattle.p9_explain.specs.Explained.{IsExplained}
 use Rattle.p9_map.specs.Picture.{IsMapped}
 use Rattle.p9_view.specs.Tree.{IsInputShown}

@@ -2,8 +2,8 @@
 use Rattle.std.specs.Prelude.{◌≡◌, ◌⊎◌, ◌++◌, ℕ, Bool, true, false, List, Some, None, codes}
 use Rattle.clap.specs.Matches.{one_text}
 use Rattle.clap.specs.declared.parser.matches.Found.{Found}
-use Rattle.p9_commands.specs.Prepared.{prepared_of}
-use Rattle.p9_commands.specs.declared.prepared.Needs.TheVariants.{Nothing}
+use Rattle.p9_prepared.specs.Prepared.{prepared_of}
+use Rattle.p9_prepared.specs.declared.prepared.Needs.TheVariants.{Nothing}
 use Rattle.p9_explain.specs.Explained.{IsExplained}
 use Rattle.p9_seal.specs.Sealing.{IsSealError, IsSealed}
 use Rattle.p9_seal.specs.declared.error.SealError.{SealError}

@@ -1,8 +1,8 @@
 //! An input as a picture.
 
 ghost use Rattle.std.specs.Prelude.{◌≡◌, IfOk, OnErr};
-ghost use Rattle.p9_commands.specs.Prepared.{prepared_of};
-ghost use Rattle.p9_commands.specs.declared.prepared.Needs.TheVariants.{Nothing};
+ghost use Rattle.p9_prepared.specs.Prepared.{prepared_of};
+ghost use Rattle.p9_prepared.specs.declared.prepared.Needs.TheVariants.{Nothing};
 ghost use Rattle.p9_map.specs.Picture.{IsMapped};
 ghost use Rattle.p9_inputs.specs.Added.{IsAsBefore};
 

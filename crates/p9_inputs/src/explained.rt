@@ -1,8 +1,8 @@
 //! The verdict over an input in words.
 
 ghost use Rattle.std.specs.Prelude.{◌≡◌, IfOk, OnErr};
-ghost use Rattle.p9_commands.specs.Prepared.{prepared_of};
-ghost use Rattle.p9_commands.specs.declared.prepared.Needs.TheVariants.{Nothing};
+ghost use Rattle.p9_prepared.specs.Prepared.{prepared_of};
+ghost use Rattle.p9_prepared.specs.declared.prepared.Needs.TheVariants.{Nothing};
 ghost use Rattle.p9_explain.specs.Explained.{IsExplained};
 
 use crate::sealed::name_in;

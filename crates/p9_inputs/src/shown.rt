@@ -2,8 +2,8 @@
 
 ghost use Rattle.std.specs.Prelude.{◌≡◌, IfOk, OnErr, codes};
 ghost use Rattle.clap.specs.Matches.{first_value, found_of};
-ghost use Rattle.p9_commands.specs.Prepared.{prepared_of};
-ghost use Rattle.p9_commands.specs.declared.prepared.Needs.TheVariants.{Nothing};
+ghost use Rattle.p9_prepared.specs.Prepared.{prepared_of};
+ghost use Rattle.p9_prepared.specs.declared.prepared.Needs.TheVariants.{Nothing};
 ghost use Rattle.p9_view.specs.Tree.{IsInputShown};
 ghost use Rattle.p9_inputs.specs.Added.{IsAsBefore};
 

@@ -14,7 +14,7 @@ use Rattle.p9_space.specs.Given.{is_table_given}
 use Rattle.p9_space.specs.Place.{root_place}
 use Rattle.p9_space.specs.Table.{MountRow}
 use Rattle.p9_world.specs.World.{World}
-use Rattle.p9_commands.specs.NameSpace.{NameSpace}
+use Rattle.p9_prepared.specs.NameSpace.{NameSpace}
 use Rattle.p9_map.specs.Picture.{IsPage, IsPicture}
 use Rattle.p9_map.specs.Standing.{drawn_rows, standing_of, standing_status, standing_text}
 use Rattle.p9_map.specs.Walk.{Walk, hops_from, walk_of}

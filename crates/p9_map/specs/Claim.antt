@@ -3,7 +3,7 @@ use Rattle.std.specs.Prelude.{ℕ, ◌==◌, List, [], ◌∷◌, ◌++◌, code
 use Rattle.std.specs.List.{flat_map}
 use Rattle.p9_base.specs.declared.node_ref.NodeRef.{NodeRef}
 use Rattle.p9_world.specs.World.{World}
-use Rattle.p9_commands.specs.Path.{path_of}
+use Rattle.p9_prepared.specs.Path.{path_of}
 use Rattle.p9_shown.specs.Text.{shown_text}
 
 -- the texts of some things with a comma between them

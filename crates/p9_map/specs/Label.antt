@@ -13,7 +13,7 @@ use Rattle.p9_tree.specs.Node.{Node, is_dir}
 use Rattle.p9_world.specs.World.{World}
 use Rattle.p9_space.specs.Rights.{Who}
 use Rattle.p9_judge.specs.declared.breach.Step.{Step}
-use Rattle.p9_commands.specs.Path.{server_name}
+use Rattle.p9_prepared.specs.Path.{server_name}
 use Rattle.p9_shown.specs.Text.{shown_text}
 use Rattle.p9_map.specs.Fault.{fault_note}
 use Rattle.p9_right.specs.Right.{right_of, right_words}

@@ -11,9 +11,9 @@ use Rattle.p9_judge.specs.Verdict.{IsLeast}
 use Rattle.p9_space.specs.Place.{root_place}
 use Rattle.p9_space.specs.Table.{MountRow}
 use Rattle.p9_world.specs.World.{World}
-use Rattle.p9_commands.specs.NameSpace.{NameSpace, gap_over}
-use Rattle.p9_commands.specs.Prepared.{Prepared, Rejected, gap_in, rejected_text}
-use Rattle.p9_commands.specs.Report.{reports_text}
+use Rattle.p9_prepared.specs.NameSpace.{NameSpace, gap_over}
+use Rattle.p9_prepared.specs.Prepared.{Prepared, Rejected, gap_in, rejected_text}
+use Rattle.p9_prepared.specs.Report.{reports_text}
 use Rattle.p9_map.specs.Box.{box_text}
 use Rattle.p9_map.specs.Claim.{claim_text, shown_path}
 use Rattle.p9_map.specs.Label.{AreLabels, cut_text}

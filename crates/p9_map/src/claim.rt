@@ -5,7 +5,7 @@ ghost use Rattle.std.specs.String.{string_bytes};
 ghost use Rattle.p9_map.specs.Claim.{claim_text, comma_list, shown_path, users_text};
 
 use p9_base::{NoMemory, NodeRef, User};
-use p9_commands::path_of;
+use p9_prepared::path_of;
 use p9_shown::{push_shown, shown};
 use p9_tree::Tree;
 use p9_world::World;

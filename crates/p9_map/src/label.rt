@@ -15,7 +15,7 @@ use crate::fault::fault_note;
 use crate::order::Spot;
 use crate::scene::Scene;
 use p9_base::{NoMemory, NodeRef};
-use p9_commands::server_name;
+use p9_prepared::server_name;
 use p9_judge::{Breach, Step};
 use p9_right::right_of;
 use p9_shown::shown;

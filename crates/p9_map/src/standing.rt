@@ -6,7 +6,7 @@ ghost use Rattle.std.specs.String.{string_bytes};
 ghost use Rattle.p9_map.specs.Standing.{drawn_rows, standing_of, standing_status, standing_text};
 
 use p9_cert::{Certificate, Gap};
-use p9_commands::status::{DONE, REFUSED};
+use p9_prepared::status::{DONE, REFUSED};
 use std::alloc::{AllocError, Allocator};
 
 /// How the certificate of an input stands.

@@ -7,7 +7,7 @@ use Rattle.std.specs.Prelude.{codes, nat_eq, not}
 use Rattle.std.specs.List.{prefix_len, starts_with}
 use Rattle.std.specs.Str.{bytes_eq}
 use Rattle.std.proofs.lemmas.Slice.Eq.{bytes_eq-Decides}
-use Rattle.p9_commands.specs.Bundle.{Reading, Texts, with_numbered_line}
+use Rattle.p9_prepared.specs.Bundle.{Reading, Texts, with_numbered_line}
 use Rattle.p9_seal.specs.Text.{begins_certificate_or_script, begins_script, cert_head}
 use Rattle.p9_seal.specs.Text.{lines_after, lines_before, script_head}
 use Rattle.p9_seal.proofs.Readings.{IsEarly, Reads, Step, behind, cert-step, cond-ok, early-step}

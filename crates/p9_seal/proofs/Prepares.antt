@@ -11,12 +11,12 @@ use Rattle.p9_nsline.specs.Line.{lines_in}
 use Rattle.p9_step.specs.Event.{Event}
 use Rattle.p9_world.specs.Read.{world_of}
 use Rattle.p9_world.specs.World.{World}
-use Rattle.p9_commands.specs.Bundle.{Texts, bundle_of}
-use Rattle.p9_commands.specs.NameSpace.{NameSpace, space_in, space_over, world_in}
-use Rattle.p9_commands.specs.Prepared.{Prepared, Rejected, certificate_in, prepared_of, script_in}
-use Rattle.p9_commands.specs.Prepared.{with_reports}
-use Rattle.p9_commands.specs.declared.prepared.Needs.{Needs}
-use Rattle.p9_commands.specs.declared.refusal.Refusal.{Refusal}
+use Rattle.p9_prepared.specs.Bundle.{Texts, bundle_of}
+use Rattle.p9_prepared.specs.NameSpace.{NameSpace, space_in, space_over, world_in}
+use Rattle.p9_prepared.specs.Prepared.{Prepared, Rejected, certificate_in, prepared_of, script_in}
+use Rattle.p9_prepared.specs.Prepared.{with_reports}
+use Rattle.p9_prepared.specs.declared.prepared.Needs.{Needs}
+use Rattle.p9_prepared.specs.declared.refusal.Refusal.{Refusal}
 use Rattle.p9_seal.specs.Sealing.{space_of}
 use Rattle.p9_seal.specs.Sections.{HasCertificate, statements_in}
 

@@ -10,15 +10,15 @@ use Rattle.p9_base.specs.Results.{need}
 use Rattle.p9_cert.specs.Rows.{IsCertificate}
 use Rattle.p9_cert.specs.Text.{certificate_text}
 use Rattle.p9_cert.proofs.Written.{written_reads_back}
-use Rattle.p9_commands.specs.Bundle.{Texts, bundle_of}
-use Rattle.p9_commands.specs.NameSpace.{NameSpace, space_in}
+use Rattle.p9_prepared.specs.Bundle.{Texts, bundle_of}
+use Rattle.p9_prepared.specs.NameSpace.{NameSpace, space_in}
 use Rattle.p9_nsline.specs.Space.{Report}
-use Rattle.p9_commands.specs.Prepared.{IsPrepareErrorBy, Prepared, Rejected, prepared_of, script_in}
-use Rattle.p9_commands.specs.Refusal.{IsStop, or_refused}
-use Rattle.p9_commands.specs.declared.prepared.Needs.{Needs}
-use Rattle.p9_commands.specs.declared.prepared.Needs.TheVariants.{Nothing}
-use Rattle.p9_commands.specs.declared.refusal.Refusal.{Refusal}
-use Rattle.p9_commands.specs.declared.refusal.Refusal.TheVariants.{BadSection, NotUtf8}
+use Rattle.p9_prepared.specs.Prepared.{IsPrepareErrorBy, Prepared, Rejected, prepared_of, script_in}
+use Rattle.p9_prepared.specs.Refusal.{IsStop, or_refused}
+use Rattle.p9_prepared.specs.declared.prepared.Needs.{Needs}
+use Rattle.p9_prepared.specs.declared.prepared.Needs.TheVariants.{Nothing}
+use Rattle.p9_prepared.specs.declared.refusal.Refusal.{Refusal}
+use Rattle.p9_prepared.specs.declared.refusal.Refusal.TheVariants.{BadSection, NotUtf8}
 use Rattle.p9_seal.specs.declared.error.SealError.{SealError}
 use Rattle.p9_seal.specs.declared.error.SealError.TheVariants.{Empty, Refused as RefusedInput, No, Vacuous}
 use Rattle.p9_seal.specs.declared.error.SealError.TheVariants.{Changeable}

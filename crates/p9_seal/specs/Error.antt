@@ -8,8 +8,8 @@ use Rattle.p9_cert.specs.Policy.{policy_of}
 use Rattle.p9_fixed.specs.Change.{first_change}
 use Rattle.p9_fixed.specs.declared.change.Change.{Change}
 use Rattle.p9_nsline.specs.Space.{Report}
-use Rattle.p9_commands.specs.NameSpace.{NameSpace}
-use Rattle.p9_commands.specs.declared.refusal.Refusal.{Refusal}
+use Rattle.p9_prepared.specs.NameSpace.{NameSpace}
+use Rattle.p9_prepared.specs.declared.refusal.Refusal.{Refusal}
 use Rattle.p9_seal.specs.declared.error.SealError.{SealError}
 use Rattle.p9_seal.specs.declared.error.SealError.TheVariants.{Refused, NoMemory}
 use Rattle.p9_seal.specs.declared.error.Vacuity.{Vacuity}

@@ -14,11 +14,11 @@ use Rattle.p9_judge.specs.Breach.{IsBreach, IsByFirst}
 use Rattle.p9_judge.specs.Verdict.{IsLeast}
 use Rattle.p9_judge.specs.declared.breach.Breach.{Breach}
 use Rattle.p9_step.specs.Event.{Event}
-use Rattle.p9_commands.specs.Bundle.{Texts, bundle_of}
-use Rattle.p9_commands.specs.NameSpace.{NameSpace, gap_over}
-use Rattle.p9_commands.specs.Prepared.{opened, prepared_of, script_in}
-use Rattle.p9_commands.specs.declared.prepared.Needs.{Needs}
-use Rattle.p9_commands.specs.declared.refusal.Refusal.{Refusal}
+use Rattle.p9_prepared.specs.Bundle.{Texts, bundle_of}
+use Rattle.p9_prepared.specs.NameSpace.{NameSpace, gap_over}
+use Rattle.p9_prepared.specs.Prepared.{opened, prepared_of, script_in}
+use Rattle.p9_prepared.specs.declared.prepared.Needs.{Needs}
+use Rattle.p9_prepared.specs.declared.refusal.Refusal.{Refusal}
 use Rattle.p9_seal.specs.Error.{change_against, vacuity_against}
 use Rattle.p9_seal.specs.Sections.{HasCertificate}
 use Rattle.p9_seal.specs.Text.{sealed_text}

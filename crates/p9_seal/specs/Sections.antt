@@ -2,7 +2,7 @@
 use Rattle.std.specs.Prelude.{◌≡◌, ℕ, List, Option, Some}
 use Rattle.std.specs.Option.{option_map}
 use Rattle.p9_base.specs.Statement.{statements_of}
-use Rattle.p9_commands.specs.Bundle.{Texts}
+use Rattle.p9_prepared.specs.Bundle.{Texts}
 
 -- the statements of a section's text, if the section is there
 abbrev pub statements_in : Option (List ℕ) → Option (List (ℕ × List (List ℕ)))

@@ -5,7 +5,7 @@ ghost use Rattle.std.specs.Io.KnownBytes.{Appends, WriteAppends};
 ghost use Rattle.std.specs.IoError.{error_kind};
 ghost use Rattle.p9_serve.specs.Run.{AppendsFront, failure_status, failure_text};
 
-use p9_commands::status::{INPUT_OR_OUTPUT_FAILED, OUT_OF_MEMORY};
+use p9_prepared::status::{INPUT_OR_OUTPUT_FAILED, OUT_OF_MEMORY};
 use std::io;
 use std::io::{ErrorKind, Write};
 

@@ -15,7 +15,7 @@ use crate::server::Server;
 use mio::net::TcpListener;
 use p9_base::NoMemory;
 use p9_commands::served_guard;
-use p9_commands::status::{DONE, REFUSED};
+use p9_prepared::status::{DONE, REFUSED};
 use p9_guard::Guard;
 use p9_index::IndexTree;
 use p9_tree::Tree;

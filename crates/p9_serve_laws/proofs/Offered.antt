@@ -15,12 +15,13 @@ use Rattle.p9_guard.proofs.Sentences.{starts-guarded}
 use Rattle.p9_guard_laws.specs.Alike.{AreAlike}
 use Rattle.p9_guard_laws.proofs.Begins.{alike_verified}
 use Rattle.p9_clients.specs.Serving.{in_state}
-use Rattle.p9_commands.specs.NameSpace.{exported, gap_over, guard_over}
+use Rattle.p9_commands.specs.Guards.{exported, guard_over, guarded}
+use Rattle.p9_prepared.specs.NameSpace.{gap_over}
 use Rattle.p9_commands.specs.Offer.{Serves, offer_in, offer_of}
-use Rattle.p9_commands.specs.Prepared.{Prepared, Rejected, guarded, with_reports}
-use Rattle.p9_commands.specs.Report.{reports_text}
-use Rattle.p9_commands.specs.declared.prepared.Needs.TheVariants.{Certificate}
-use Rattle.p9_commands.specs.declared.refusal.Refusal.TheVariants.{NoCertificate, Unverified}
+use Rattle.p9_prepared.specs.Prepared.{Prepared, Rejected, with_reports}
+use Rattle.p9_prepared.specs.Report.{reports_text}
+use Rattle.p9_prepared.specs.declared.prepared.Needs.TheVariants.{Certificate}
+use Rattle.p9_prepared.specs.declared.refusal.Refusal.TheVariants.{NoCertificate, Unverified}
 use Rattle.p9_input_laws.specs.Laws.{PreparedInputsAreWellFormed}
 use Rattle.p9_serve.specs.Rounds.{untold}
 use Rattle.p9_serve.specs.Run.{ClientSocket}

@@ -2,8 +2,8 @@
 use Rattle.std.specs.Prelude.{◌≡◌, ℕ, List, [], Ok}
 use Rattle.p9_guard.specs.Guard.{Guarded}
 use Rattle.p9_commands.specs.Offer.{Offered, offer_of}
-use Rattle.p9_commands.specs.Prepared.{Prepared, prepared_of}
-use Rattle.p9_commands.specs.declared.prepared.Needs.TheVariants.{Certificate}
+use Rattle.p9_prepared.specs.Prepared.{Prepared, prepared_of}
+use Rattle.p9_prepared.specs.declared.prepared.Needs.TheVariants.{Certificate}
 use Rattle.p9_input_laws.specs.Laws.{AreAlikeInputs}
 use Rattle.p9_serve.specs.Rounds.{untold}
 use Rattle.p9_serve.specs.Run.{ClientSocket, IsServed, Known}

@@ -4,10 +4,10 @@ use Rattle.std.proofs.Common.{append_assoc}
 use Rattle.p9_base.specs.declared.stop.Stop.{Stop}
 use Rattle.p9_base.specs.declared.stop.Stop.TheVariants.{NoMemory, Refused}
 use Rattle.p9_nsline.specs.Space.{Report}
-use Rattle.p9_commands.specs.Prepared.{IsPrepareErrorBy, Prepared, Rejected}
-use Rattle.p9_commands.specs.Refusal.{ReportsStop, refusal_line}
-use Rattle.p9_commands.specs.Report.{reports_text}
-use Rattle.p9_commands.specs.declared.refusal.Refusal.{Refusal}
+use Rattle.p9_prepared.specs.Prepared.{IsPrepareErrorBy, Prepared, Rejected}
+use Rattle.p9_prepared.specs.Refusal.{ReportsStop, refusal_line}
+use Rattle.p9_prepared.specs.Report.{reports_text}
+use Rattle.p9_prepared.specs.declared.refusal.Refusal.{Refusal}
 use Rattle.p9_view.specs.Tree.{IsInputShown}
 
 -- the reports and the fault are printed

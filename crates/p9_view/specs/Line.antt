@@ -13,8 +13,8 @@ use Rattle.p9_space.specs.Rights.{Who}
 use Rattle.p9_space.specs.Table.{members_of}
 use Rattle.p9_space.specs.Walk.{dir_fault}
 use Rattle.p9_world.specs.World.{World}
-use Rattle.p9_commands.specs.NameSpace.{NameSpace}
-use Rattle.p9_commands.specs.Path.{path_of}
+use Rattle.p9_prepared.specs.NameSpace.{NameSpace}
+use Rattle.p9_prepared.specs.Path.{path_of}
 use Rattle.p9_view.specs.declared.tour.Entry.{Entry}
 use Rattle.p9_view.specs.declared.way.Access.{Access}
 use Rattle.p9_view.specs.declared.way.Access.TheVariants.{AfterMode, Behind, Now}

@@ -13,7 +13,7 @@ use Rattle.p9_space.specs.Rights.{Who}
 use Rattle.p9_space.specs.Table.{MountRow}
 use Rattle.p9_space.specs.Trail.{here}
 use Rattle.p9_space.specs.Walk.{walk}
-use Rattle.p9_commands.specs.Path.{rooted_path}
+use Rattle.p9_prepared.specs.Path.{rooted_path}
 use Rattle.p9_view.specs.declared.tour.Entry.{Entry}
 use Rattle.p9_view.specs.declared.tour.Origin.{Origin}
 use Rattle.p9_view.specs.declared.way.Access.{Access}

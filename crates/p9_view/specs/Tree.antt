@@ -5,9 +5,9 @@ use Rattle.std.specs.Str.{bytes_eq}
 use Rattle.p9_shown.specs.Text.{shown_text}
 use Rattle.p9_space.specs.Rights.{Who}
 use Rattle.p9_world.specs.World.{World}
-use Rattle.p9_commands.specs.NameSpace.{NameSpace}
-use Rattle.p9_commands.specs.Prepared.{Prepared, Rejected, rejected_text}
-use Rattle.p9_commands.specs.Report.{reports_text}
+use Rattle.p9_prepared.specs.NameSpace.{NameSpace}
+use Rattle.p9_prepared.specs.Prepared.{Prepared, Rejected, rejected_text}
+use Rattle.p9_prepared.specs.Report.{reports_text}
 use Rattle.p9_view.specs.declared.tour.Entry.{Entry}
 use Rattle.p9_view.specs.Line.{line_text}
 use Rattle.p9_view.specs.Tour.{IsTextOfSame, IsTextTo, IsTourOf}

@@ -16,7 +16,7 @@ use crate::tour::Entry;
 use crate::way::Access;
 use p9_base::{NoMemory, NodeRef};
 use p9_cert::is_hidden;
-use p9_commands::{NameSpace, path_of};
+use p9_prepared::{NameSpace, path_of};
 use p9_space::{Member, dir_fault};
 use p9_tree::{Node, Tree};
 use p9_world::World;

@@ -10,7 +10,7 @@ ghost use Rattle.p9_view.specs.declared.tour.Entry.{Entry};
 
 use crate::way::{Access, Way};
 use p9_base::{Name, NoMemory, NodeRef};
-use p9_commands::rooted_path;
+use p9_prepared::rooted_path;
 use p9_space::ROOT_PLACE;
 use std::alloc::Allocator;
 use std::marker::Model;

@@ -4,8 +4,8 @@ ghost use Rattle.std.specs.Prelude.{◌≡◌, ◌++◌, ℕ, IfOk, IfSome, List
 ghost use Rattle.std.specs.Option.{option_copied, option_map};
 ghost use Rattle.std.specs.Str.{bytes_eq};
 ghost use Rattle.std.specs.String.{string_bytes};
-ghost use Rattle.p9_commands.specs.Prepared.{prepared_of, rejected_text};
-ghost use Rattle.p9_commands.specs.declared.prepared.Needs.TheVariants.{Nothing};
+ghost use Rattle.p9_prepared.specs.Prepared.{prepared_of, rejected_text};
+ghost use Rattle.p9_prepared.specs.declared.prepared.Needs.TheVariants.{Nothing};
 ghost use Rattle.p9_space.specs.Rights.{who_view};
 ghost use Rattle.p9_view.specs.Tree.{AreLines, IsInputShown, IsShownTo, IsTree, unlisted_text};
 
@@ -15,8 +15,8 @@ use crate::text::print_shown;
 use crate::tour::Tour;
 use crate::visit::tour_of;
 use p9_base::{NoMemory, User};
-use p9_commands::status::{DONE, REFUSED};
-use p9_commands::{NameSpace, Needs, PrepareError, Prepared, prepare, print_reports, print_stop};
+use p9_prepared::status::{DONE, REFUSED};
+use p9_prepared::{NameSpace, Needs, PrepareError, Prepared, prepare, print_reports, print_stop};
 use p9_space::Who;
 use p9_tree::Tree;
 use p9_world::World;

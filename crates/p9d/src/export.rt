@@ -5,7 +5,7 @@ use crate::counting::nodes_of;
 use crate::keeping::{Trees, keep_in};
 use crate::words::Asked;
 use p9_base::{NoMemory, NodeRef, User};
-use p9_commands::{Needs, Prepared, path_of, prepare, print_reports};
+use p9_prepared::{Needs, Prepared, path_of, prepare, print_reports};
 use p9_explain::explain;
 use p9_folder::{Folder, belongs_to};
 use p9_guard::Guard;

@@ -2,7 +2,7 @@
 
 use crate::PROGRAM;
 use p9_base::NoMemory;
-use p9_commands::{NameSpace, Prepared};
+use p9_prepared::{NameSpace, Prepared};
 use p9_disk::FileDevice;
 use p9_folder::{Folder, Found, JOURNAL, go_on_with, last_crash, note_start, reopen_for};
 use p9_index::IndexTree;

@@ -1,7 +1,7 @@
 use Rattle.std.proofs.Common.{IfOk, Result}
 use Rattle.p9_commands.proofs.Ends.{after-prepared, work-ends}
 use Rattle.p9_commands.specs.Command.{CommandEnds, admitted, needs_of, printed}
-use Rattle.p9_commands.specs.Prepared.{Prepared, Rejected}
+use Rattle.p9_prepared.specs.Prepared.{Prepared, Rejected}
 use Rattle.p9_commands.proofs.command.end.Goals as goal
 
 pub returns-in-Some : goal.returns-in-Some

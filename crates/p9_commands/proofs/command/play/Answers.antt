@@ -1,8 +1,8 @@
 use Rattle.std.proofs.Common.{refl, subst}
 use Rattle.p9_commands.proofs.Ends.{unplayed}
 use Rattle.p9_commands.specs.Command.{printed}
-use Rattle.p9_commands.specs.Prepared.{Prepared, gap_in}
-use Rattle.p9_commands.specs.Refusal.{IsUnverified}
+use Rattle.p9_prepared.specs.Prepared.{Prepared, gap_in}
+use Rattle.p9_prepared.specs.Refusal.{IsUnverified}
 use Rattle.p9_commands.proofs.command.play.Goals as goal
 
 pub returns-in_ok-print_stop-in-Err : goal.returns-in_ok-print_stop-in-Err

@@ -2,8 +2,8 @@ use Rattle.std.proofs.Common.{None, Result, Some, refl}
 use Rattle.p9_commands.proofs.Ends.{after-prepared}
 use Rattle.p9_commands.proofs.Offers.{guard-offered, none-offered}
 use Rattle.p9_commands.specs.Offer.{Offer, Serves, offer_in}
-use Rattle.p9_commands.specs.Prepared.{Rejected}
-use Rattle.p9_commands.specs.declared.prepared.Needs.TheVariants.{Certificate}
+use Rattle.p9_prepared.specs.Prepared.{Rejected}
+use Rattle.p9_prepared.specs.declared.prepared.Needs.TheVariants.{Certificate}
 use Rattle.p9_commands.proofs.offer.offer.Goals as goal
 
 pub returns-in-Ok : goal.returns-in-Ok

@@ -1,7 +1,7 @@
 use Rattle.std.proofs.Common.{◌≡◌, subst}
 use Rattle.std.specs.String.{string_bytes}
 use Rattle.p9_cert.specs.Policy.{policy_of}
-use Rattle.p9_commands.specs.NameSpace.{NameSpace}
+use Rattle.p9_prepared.specs.NameSpace.{NameSpace}
 use Rattle.p9_fixed.specs.Change.{first_change}
 use Rattle.p9_explain.specs.Change.{IsChangeTold}
 use Rattle.p9_explain.proofs.Changes.{changeable-told}

@@ -1,7 +1,7 @@
 use Rattle.std.proofs.Common.{IsTrue, ap, subst, sym, ◌∙◌}
 use Rattle.std.specs.String.{string_bytes}
 use Rattle.p9_cert.specs.Policy.{policy_of}
-use Rattle.p9_commands.specs.Prepared.{Prepared}
+use Rattle.p9_prepared.specs.Prepared.{Prepared}
 use Rattle.p9_judge.specs.Verdict.{IsVerdict as IsJudged}
 use Rattle.p9_space.specs.Given.{is_table_given}
 use Rattle.p9_explain.specs.Explained.{IsVerdict, yes_status}

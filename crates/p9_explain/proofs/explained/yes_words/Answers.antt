@@ -1,6 +1,6 @@
 use Rattle.std.proofs.Common.{ap, length, subst}
 use Rattle.std.specs.String.{string_bytes}
-use Rattle.p9_commands.specs.Prepared.{Prepared}
+use Rattle.p9_prepared.specs.Prepared.{Prepared}
 use Rattle.p9_explain.specs.Change.{IsKindTold}
 use Rattle.p9_explain.proofs.Changes.{reach-told}
 use Rattle.p9_explain.proofs.explained.yes_words.Goals as goal

@@ -1,6 +1,6 @@
 use Rattle.std.proofs.Common.{List, [], ℕ, subst, sym}
-use Rattle.p9_commands.specs.Prepared.{prepared_of}
-use Rattle.p9_commands.specs.declared.prepared.Needs.TheVariants.{Nothing}
+use Rattle.p9_prepared.specs.Prepared.{prepared_of}
+use Rattle.p9_prepared.specs.declared.prepared.Needs.TheVariants.{Nothing}
 use Rattle.p9_map.specs.Picture.{IsMapped}
 use Rattle.p9_inputs.proofs.Drawings.{mapped_after}
 use Rattle.p9_inputs.proofs.drawn.map.Goals as goal

@@ -1,8 +1,8 @@
 use Rattle.std.proofs.Common.{List, [], ℕ, Option, codes, subst, sym}
 use Rattle.std.specs.Option.{option_copied}
 use Rattle.clap.specs.Matches.{first_value, found_of}
-use Rattle.p9_commands.specs.Prepared.{prepared_of}
-use Rattle.p9_commands.specs.declared.prepared.Needs.TheVariants.{Nothing}
+use Rattle.p9_prepared.specs.Prepared.{prepared_of}
+use Rattle.p9_prepared.specs.declared.prepared.Needs.TheVariants.{Nothing}
 use Rattle.p9_view.specs.Tree.{IsInputShown}
 use Rattle.p9_inputs.proofs.Showings.{input_shown_after}
 use Rattle.p9_inputs.proofs.shown.tree.Goals as goal

@@ -1,6 +1,6 @@
 use Rattle.std.proofs.Common.{ap, refl, subst, ◌∙◌}
 use Rattle.std.specs.Option.{option_copied}
-use Rattle.p9_commands.specs.NameSpace.{NameSpace}
+use Rattle.p9_prepared.specs.NameSpace.{NameSpace}
 use Rattle.p9_map.specs.Mark.{rows_of}
 use Rattle.p9_map.specs.Picture.{IsPicture}
 use Rattle.p9_map.specs.Walk.{walk_in}

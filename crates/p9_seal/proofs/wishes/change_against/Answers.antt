@@ -2,7 +2,7 @@ use Rattle.std.proofs.Common.{◌≡◌, Bool, Option, None, Result, Ok, Err, If
 use Rattle.std.specs.Prelude.{◌↔◌, IsTrue}
 use Rattle.p9_cert.specs.Policy.{policy_of}
 use Rattle.p9_cert.specs.Rows.{is_row}
-use Rattle.p9_commands.specs.NameSpace.{NameSpace}
+use Rattle.p9_prepared.specs.NameSpace.{NameSpace}
 use Rattle.p9_fixed.specs.Fixed.{IsFixed}
 use Rattle.p9_seal.proofs.wishes.change_against.Goals as goal
 

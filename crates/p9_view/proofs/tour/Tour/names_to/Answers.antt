@@ -1,6 +1,6 @@
 use Rattle.std.proofs.Common.{◌∙◌, sym, ap, map, subst}
 use Rattle.p9_view.specs.Tour.{IsPathTo}
-use Rattle.p9_commands.proofs.Paths.{map-reverse}
+use Rattle.p9_prepared.proofs.Paths.{map-reverse}
 use Rattle.p9_view.proofs.tour.Tour.names_to.Goals as goal
 
 pub returns : goal.returns

@@ -1,0 +1,7 @@
+mod Scripts
+mod Bundles
+mod Smalls
+mod Worlds
+pub mod Paths
+mod NameSpaces
+mod Preparing

@@ -1,0 +1,24 @@
+//! What an input reads to. It is split into sections, its world is made, its namespace file is run over
+//! that, and its certificate and its script are read. The first fault is a refusal.
+#![tactic(auto, unfolding(p9_base::specs::Results::need))]
+
+mod bundle;
+mod input;
+mod line;
+mod name_space;
+mod path;
+mod prepared;
+mod refusal;
+mod report;
+mod script;
+mod small;
+pub mod status;
+
+pub use bundle::{Bundle, BundleError, split_bundle};
+pub use line::{print_bytes, print_line};
+pub use name_space::NameSpace;
+pub use path::{path_of, print_path, rooted_path, server_name};
+pub use prepared::{Needs, PrepareError, Prepared, prepare, prepare_and_report};
+pub use refusal::{Refusal, Stop, print_stop};
+pub use report::print_reports;
+pub use script::{ScriptError, read_script};
