@@ -4,8 +4,8 @@
 
 use p9_asked::{Asked, command_asked};
 use p9_base::NoMemory;
-use p9_prepared::status::BAD_COMMAND_LINE;
 use p9_commands::{BadCommandLine, Command};
+use p9_prepared::status::BAD_COMMAND_LINE;
 use p9_serve::{report_failure, run_serve};
 use p9_shell::{given_words, input, print, tell};
 use std::alloc::AllocError;

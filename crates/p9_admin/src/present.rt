@@ -1,10 +1,10 @@
 //! What is kept in a folder, as it is now.
 
 use crate::PROGRAM;
-use p9_prepared::{Needs, Prepared, Stop, prepare, print_stop};
 use p9_folder::{Kept, go_on_with, read_kept};
 use p9_index::IndexTree;
 use p9_kept::Refused;
+use p9_prepared::{Needs, Prepared, Stop, prepare, print_stop};
 use p9_shell::{Failure, tell};
 use p9_shown::AsShown;
 use std::alloc::Global;

@@ -22,10 +22,10 @@ use crate::source::Source;
 use crate::teller::{Teller, push};
 use p9_base::{NoMemory, NodeRef};
 use p9_cert::{Certificate, Gap};
-use p9_prepared::status::{DONE, REFUSED};
-use p9_prepared::{NameSpace, Needs, Prepared, Refusal, Stop, prepare};
 use p9_fixed::first_change;
 use p9_judge::{Verdict, judge};
+use p9_prepared::status::{DONE, REFUSED};
+use p9_prepared::{NameSpace, Needs, Prepared, Refusal, Stop, prepare};
 use p9_tree::Tree;
 use std::alloc::Allocator;
 

@@ -7,9 +7,9 @@ ghost use Rattle.p9_log.specs.Log.{LeaveAsSeen};
 ghost use Rattle.p9_kept.specs.Edits.{stood_for};
 
 use p9_base::{NoMemory, SERVERS_MAX};
-use p9_prepared::NameSpace;
 use p9_kept::{FileJournal, Refused, ReopenError, Reopened, resume};
 use p9_log::{Crash, Device, Recovered, recover};
+use p9_prepared::NameSpace;
 use p9_space::is_table_given;
 use p9_tree::{Forest, Journal, NEXT_MAX, Tree};
 use std::alloc::Allocator;

@@ -8,8 +8,8 @@ ghost use Rattle.p9_inputs.specs.Sealed.{AreWished, IsReported, IsSealing, IsWhy
 use crate::shapes::NAME;
 use clap::ArgMatches;
 use p9_base::NoMemory;
-use p9_prepared::status::{DONE, REFUSED};
 use p9_explain::{explain, explain_change};
+use p9_prepared::status::{DONE, REFUSED};
 use p9_seal::{SealError, Wishes};
 use p9_tree::Tree;
 use std::alloc::Allocator;

@@ -32,9 +32,9 @@ use crate::standing::{Standing, drawn_certificate};
 use crate::svg::Svg;
 use p9_base::NoMemory;
 use p9_cert::{Certificate, Gap};
+use p9_judge::{Verdict, judge};
 use p9_prepared::status::REFUSED;
 use p9_prepared::{NameSpace, Needs, PrepareError, Prepared, prepare, print_reports, print_stop};
-use p9_judge::{Verdict, judge};
 use p9_tree::Tree;
 use std::alloc::Allocator;
 

@@ -4,10 +4,10 @@ ghost use Rattle.std.specs.Prelude.{◌≡◌};
 ghost use Rattle.p9_seal.specs.Error.{vacuity_against, vacuity_of};
 
 use p9_base::NoMemory;
-use p9_prepared::{NameSpace, Refusal, Stop};
 use p9_fixed::Change;
 use p9_judge::Breach;
 use p9_nsfile::OpFault;
+use p9_prepared::{NameSpace, Refusal, Stop};
 use p9_tree::Tree;
 use std::alloc::{AllocError, Allocator};
 

@@ -19,8 +19,8 @@ use crate::text::with_certificate;
 use crate::wishes::{Wishes, change_against};
 use p9_base::NoMemory;
 use p9_cert::{Certificate, write_cert};
-use p9_prepared::{BundleError, NameSpace, Needs, Prepared, Refusal, Stop, prepare, split_bundle};
 use p9_judge::{Verdict, judge};
+use p9_prepared::{BundleError, NameSpace, Needs, Prepared, Refusal, Stop, prepare, split_bundle};
 use p9_tree::Tree;
 use std::alloc::Allocator;
 

@@ -8,8 +8,8 @@ ghost use Rattle.p9_seal.specs.Error.{change_against};
 
 use p9_base::NoMemory;
 use p9_cert::Certificate;
-use p9_prepared::NameSpace;
 use p9_fixed::{Change, first_change};
+use p9_prepared::NameSpace;
 use p9_tree::Tree;
 
 /// What is wished of a sealed input. The default is neither.

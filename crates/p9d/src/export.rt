@@ -5,10 +5,11 @@ use crate::counting::nodes_of;
 use crate::keeping::{Trees, keep_in};
 use crate::words::Asked;
 use p9_base::{NoMemory, NodeRef, User};
-use p9_prepared::{Needs, Prepared, path_of, prepare, print_reports};
+use p9_commands::guard_of;
 use p9_explain::explain;
 use p9_folder::{Folder, belongs_to};
 use p9_guard::Guard;
+use p9_prepared::{Needs, Prepared, path_of, prepare, print_reports};
 use p9_shell::{Failure, tell};
 use p9_shown::AsShown;
 use p9_tree::Tree;
@@ -133,7 +134,7 @@ fn taken(
 
 // The guard of an input that is prepared, with what is known of it.
 fn with_guard(prepared: Prepared<Trees>, about: About, folder: Option<Folder>) -> Option<Export> {
-    match prepared.guard() {
+    match guard_of(prepared) {
         Ok(guard) => Some(Export {
             guard,
             about,

@@ -2,13 +2,13 @@
 
 use crate::PROGRAM;
 use p9_base::NoMemory;
-use p9_prepared::{NameSpace, Prepared};
 use p9_disk::FileDevice;
 use p9_folder::{Folder, Found, JOURNAL, go_on_with, last_crash, note_start, reopen_for};
 use p9_index::IndexTree;
 use p9_judge::{Verdict, judge};
 use p9_kept::{FileJournal, Refused, ReopenError, Reopened};
 use p9_log::Crash;
+use p9_prepared::{NameSpace, Prepared};
 use p9_shell::{Failure, tell};
 use p9_shown::AsShown;
 use p9_tree::Forest;
