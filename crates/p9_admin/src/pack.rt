@@ -18,6 +18,7 @@ use clap::ArgMatches;
 use p9_pack::{
     Accounts, GroupLine, HideLine, PlainName, PlainUser, write_group, write_hide, write_user,
 };
+use p9_prepared::{Section, print_line};
 use p9_shell::Failure;
 use p9_shell::status::{DONE, REFUSED};
 use p9_shown::AsShown;
@@ -140,7 +141,7 @@ fn pack_world(
     packing: &mut Packing<'_>,
     sources: Vec<Source>,
 ) -> Result<(), Failure> {
-    packing.output.text.extend_from_slice(b"%% world\n")?;
+    print_line(Section::World.head(), &mut packing.output.text)?;
     pack_trees(rt, packing, sources)?;
     pack_groups(rt, packing)?;
     pack_users(rt, &mut packing.output, packing.settings.users.as_slice())?;

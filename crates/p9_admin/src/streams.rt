@@ -5,6 +5,7 @@ ghost use Rattle.p9_admin.specs.Input.{has_world};
 
 use crate::PROGRAM;
 use p9_base::lines;
+use p9_prepared::Section;
 use p9_shell::Failure;
 use std::io::IsTerminal;
 
@@ -35,7 +36,7 @@ fn has_world(lines: &[&str]) -> bool
     ensures { result ≡ has_world (map (λ line. line.now) lines.now) }
 {
     for line in lines {
-        if *line == "%% world" {
+        if *line == Section::World.head() {
             return true;
         }
     }

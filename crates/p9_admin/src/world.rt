@@ -7,7 +7,9 @@ use clap::ArgMatches;
 use p9_base::{NoMemory, NodeRef, Stop, lines, words};
 use p9_index::IndexTree;
 use p9_pack::{Unfit, UnfitNode, is_same_world, unfit_nodes, write_world};
-use p9_prepared::{Bundle, BundleError, NameSpace, Needs, path_of, prepare, split_bundle};
+use p9_prepared::{
+    Bundle, BundleError, NameSpace, Needs, Section, path_of, prepare, print_line, split_bundle,
+};
 use p9_shell::Failure;
 use p9_shell::status::{DONE, REFUSED};
 use p9_shown::AsShown;
@@ -88,13 +90,13 @@ fn input_text(
 ) -> Result<Vec<u8>, Stop<Unfit>> {
     let bundle = sections(alloc, export)?;
     let mut text = Vec::new(alloc);
-    text.extend_from_slice(b"%% world\n")?;
+    print_line(Section::World.head(), &mut text)?;
     write_world(alloc, world, &mut text)?;
     if let Some(section) = &bundle.world {
         push_variables(alloc, section.as_str(), &mut text)?;
     }
-    push_section("%% ns\n", &bundle.ns, &mut text)?;
-    push_section("%% script\n", &bundle.script, &mut text)?;
+    push_section(Section::Ns, &bundle.ns, &mut text)?;
+    push_section(Section::Script, &bundle.script, &mut text)?;
     Ok(text)
 }
 
@@ -131,10 +133,14 @@ fn push_variable(alloc: Global, line: &str, text: &mut Vec<u8>) -> Result<(), No
 }
 
 // Adds a section, where it is there.
-fn push_section(head: &str, section: &Option<String>, text: &mut Vec<u8>) -> Result<(), NoMemory> {
-    if let Some(section) = section {
-        text.extend_from_slice(head.as_bytes())?;
-        text.extend_from_slice(section.as_bytes())?;
+fn push_section(
+    section: Section,
+    lines: &Option<String>,
+    text: &mut Vec<u8>,
+) -> Result<(), NoMemory> {
+    if let Some(lines) = lines {
+        print_line(section.head(), text)?;
+        text.extend_from_slice(lines.as_bytes())?;
     }
     Ok(())
 }

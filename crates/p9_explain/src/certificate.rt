@@ -5,12 +5,12 @@ ghost use Rattle.std.specs.String.{string_bytes};
 ghost use Rattle.p9_explain.specs.Certificate.{IsCertificateTold, IsGapTold};
 
 use crate::free::{first_line, push_free};
-use crate::head::Section;
 use crate::member::{Found, push_found};
 use crate::source::Source;
 use crate::teller::{Teller, push};
 use p9_base::{NoMemory, NodeRef};
 use p9_cert::{Certificate, Gap, MemberFault, RowFault};
+use p9_prepared::Section;
 use p9_space::ROOT_PLACE;
 use p9_tree::Tree;
 use p9_world::World;

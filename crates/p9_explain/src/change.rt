@@ -6,14 +6,13 @@ ghost use Rattle.p9_explain.specs.Change.{IsChangeTold, IsDeedTold, IsVerb};
 
 use crate::breach::MEND_DIRECTORY;
 use crate::free::first_line;
-use crate::head::Section;
 use crate::member::dir_of;
 use crate::right::{Alteration, TO_USE, altering_class, class_of};
 use crate::source::Source;
 use crate::teller::{Teller, push, shown_path};
 use p9_base::{NoMemory, NodeRef, User};
 use p9_fixed::{Change, ChangeKind, changer};
-use p9_prepared::{Needs, Prepared, Stop, prepare};
+use p9_prepared::{Needs, Prepared, Section, Stop, prepare};
 use p9_shown::shown;
 use p9_tree::Tree;
 use p9_world::World;

@@ -2,11 +2,10 @@
 
 use crate::draft::Draft;
 use crate::fault::{push_form_words, push_world_words};
-use crate::head::{SECTIONS, Section};
 use crate::source::Source;
 use p9_base::{NoMemory, Statement, statements};
 use p9_nsline::{BadForm, NsError, read_lines};
-use p9_prepared::{Needs, Refusal, Stop, prepare};
+use p9_prepared::{Needs, Refusal, SECTIONS, Section, Stop, prepare};
 use p9_tree::Tree;
 use p9_world::LineFault;
 use std::alloc::{AllocError, Allocator};

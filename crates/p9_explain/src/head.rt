@@ -1,43 +1,6 @@
 //! Lines that begin sections, and those that are meant to.
 
-/// The sections of an input, in the order in which they are.
-#[derive(Clone, Copy, PartialEq, Eq, PartialOrd, Ord)]
-pub(crate) enum Section {
-    World,
-    Ns,
-    Cert,
-    Script,
-}
-
-/// The four sections, in that order.
-pub(crate) const SECTIONS: [Section; 4] = [
-    Section::World,
-    Section::Ns,
-    Section::Cert,
-    Section::Script,
-];
-
-impl Section {
-    /// The line that begins it.
-    pub fn head(self) -> &'static str {
-        match self {
-            Section::World => "%% world",
-            Section::Ns => "%% ns",
-            Section::Cert => "%% cert",
-            Section::Script => "%% script",
-        }
-    }
-
-    /// Its name, by which `p9` tells its lines.
-    pub fn name(self) -> &'static str {
-        match self {
-            Section::World => "world",
-            Section::Ns => "ns",
-            Section::Cert => "cert",
-            Section::Script => "script",
-        }
-    }
-}
+use p9_prepared::{SECTIONS, Section};
 
 /// The way in which a line is bad that is to begin a section, or is before the first one.
 #[derive(Clone, Copy)]
@@ -81,7 +44,7 @@ pub(crate) enum Head {
 
 /// What a line says of sections.
 pub(crate) fn head_of(line: &str) -> Head {
-    if let Some(section) = section_of(line) {
+    if let Some(section) = Section::begun_by(line) {
         return Head::Begins(section);
     }
     if let Some(section) = section_marked(line) {
@@ -94,7 +57,7 @@ pub(crate) fn head_of(line: &str) -> Head {
     let section = section_meant(trimmed);
     let way = if section.is_none() {
         Way::UnknownName
-    } else if section_of(trimmed).is_none() {
+    } else if Section::begun_by(trimmed).is_none() {
         Way::Capitals
     } else if line.ends_with('\r') {
         Way::CarriageReturn
@@ -102,16 +65,6 @@ pub(crate) fn head_of(line: &str) -> Head {
         Way::BlankAfter
     };
     Head::Bad(section, way)
-}
-
-// The section that a line begins.
-fn section_of(line: &str) -> Option<Section> {
-    for section in SECTIONS {
-        if line == section.head() {
-            return Some(section);
-        }
-    }
-    None
 }
 
 // The section that a line is meant to begin after a byte order mark.

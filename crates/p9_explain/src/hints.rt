@@ -1,12 +1,12 @@
 //! Hints: what is allowed and may not be meant.
 
-use crate::head::Section;
 use crate::source::Source;
 use crate::strangers::push_strangers;
 use crate::teller::Teller;
 use p9_base::{NoMemory, NodeRef, Statement, User};
 use p9_cert::{Certificate, may_pass};
 use p9_nsline::OpFault;
+use p9_prepared::Section;
 use p9_shown::AsShown;
 use p9_space::{MountTable, ROOT_PLACE, Who};
 use p9_tree::Tree;

@@ -1,7 +1,8 @@
 //! Which lines of an input belong to which section, also where section lines are bad.
 
-use crate::head::{Head, Section, Way, head_of};
+use crate::head::{Head, Way, head_of};
 use p9_base::{NoMemory, lines};
+use p9_prepared::Section;
 use std::alloc::Allocator;
 
 /// A line: its number, from 1, the place of its first byte in the input, the section that it belongs

@@ -1,9 +1,9 @@
 //! The input that is explained: its name, its lines, and which of them make nodes.
 
-use crate::head::Section;
 use crate::layout::{Line, layout_of};
 use crate::node_lines::{NodeLine, line_of, node_lines};
 use p9_base::{NoMemory, NodeRef, Statement, statements};
+use p9_prepared::Section;
 use p9_shown::AsShown;
 use std::alloc::Allocator;
 

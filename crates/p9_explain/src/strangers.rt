@@ -1,10 +1,10 @@
 //! Hints on names that are no listed users, and may be mistyped.
 
-use crate::head::Section;
 use crate::hints::push_hint;
 use crate::member::dir_of;
 use crate::teller::Teller;
 use p9_base::{NoMemory, NodeRef, Statement, User};
+use p9_prepared::Section;
 use p9_tree::Tree;
 use p9_world::World;
 use std::alloc::{AllocError, Allocator};

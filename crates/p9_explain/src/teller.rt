@@ -6,11 +6,10 @@ ghost use Rattle.p9_prepared.specs.Path.{path_of};
 ghost use Rattle.p9_shown.specs.Text.{shown_text};
 
 use crate::bound::bind_line;
-use crate::head::Section;
 use crate::member::hidden_dir;
 use crate::source::Source;
 use p9_base::{NoMemory, NodeRef};
-use p9_prepared::path_of;
+use p9_prepared::{Section, path_of};
 use p9_shown::{AsShown, push_shown, shown};
 use p9_tree::{Node, Tree};
 use p9_world::World;

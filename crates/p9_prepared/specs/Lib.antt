@@ -1,4 +1,5 @@
 pub mod Script
+pub mod Section
 pub mod Bundle
 pub mod Refusal
 pub mod Small

@@ -6,10 +6,10 @@ ghost use Rattle.std.specs.Option.{option_map};
 ghost use Rattle.std.specs.String.{string_bytes};
 ghost use Rattle.p9_base.specs.Line.{is_blank};
 ghost use Rattle.p9_prepared.specs.Bundle.{IsBundleFault, begun, bundle_of, bundle_view, continued};
-ghost use Rattle.p9_prepared.specs.Bundle.{may_follow, place_of, reader_view, section_of, unread};
-ghost use Rattle.p9_prepared.specs.Bundle.{with_line, with_line_in, with_numbered_line};
-ghost use Rattle.p9_prepared.specs.Bundle.{with_section};
+ghost use Rattle.p9_prepared.specs.Bundle.{reader_view, unread, with_line, with_line_in};
+ghost use Rattle.p9_prepared.specs.Bundle.{with_numbered_line, with_section};
 
+use crate::section::Section;
 use p9_base::{NoMemory, lines};
 use std::alloc::Allocator;
 use thiserror::Error;
@@ -32,49 +32,6 @@ pub struct Bundle<A: Allocator> {
     pub ns: Option<String<A>>,
     pub cert: Option<String<A>>,
     pub script: Option<String<A>>,
-}
-
-// The sections, in the order in which they are.
-#[derive(Clone, Copy)]
-enum Section {
-    World,
-    Ns,
-    Cert,
-    Script,
-}
-
-impl Section {
-    // The section that a line begins.
-    fn begun_by(line: &str) -> Option<Section>
-        ensures { result ≡ section_of line.now }
-    {
-        match line {
-            "%% world" => Some(Section::World),
-            "%% ns" => Some(Section::Ns),
-            "%% cert" => Some(Section::Cert),
-            "%% script" => Some(Section::Script),
-            _ => None,
-        }
-    }
-
-    // The section's place among all.
-    fn place(self) -> u8
-        ensures { result ≡ place_of self }
-    {
-        match self {
-            Section::World => 0,
-            Section::Ns => 1,
-            Section::Cert => 2,
-            Section::Script => 3,
-        }
-    }
-
-    // Whether the section may follow the one before, if there is one.
-    fn may_follow(self, last: Option<Section>) -> bool
-        ensures { result ≡ may_follow last self }
-    {
-        last.is_none_or(|last| last.place() < self.place())
-    }
 }
 
 // A bundle as far as it is read, and the section that was begun last.

@@ -11,6 +11,7 @@ mod prepared;
 mod refusal;
 mod report;
 mod script;
+mod section;
 mod small;
 pub mod status;
 
@@ -22,3 +23,4 @@ pub use prepared::{Needs, PrepareError, Prepared, prepare, prepare_and_report};
 pub use refusal::{Refusal, Stop, print_stop};
 pub use report::print_reports;
 pub use script::{ScriptError, read_script};
+pub use section::{SECTIONS, Section};

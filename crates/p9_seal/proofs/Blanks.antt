@@ -8,7 +8,8 @@ use Rattle.std.specs.Str.{bytes_eq}
 use Rattle.std.proofs.lemmas.List.{append-nil}
 use Rattle.p9_base.specs.Line.{is_blank, is_skipped, lines_of, words_of}
 use Rattle.p9_base.specs.Statement.{statements_of}
-use Rattle.p9_prepared.specs.Bundle.{Reading, Texts, begun, continued, section_of, with_line}
+use Rattle.p9_prepared.specs.Bundle.{Reading, Texts, begun, continued, with_line}
+use Rattle.p9_prepared.specs.Section.{section_of}
 use Rattle.p9_prepared.specs.Bundle.{with_numbered_line}
 use Rattle.p9_seal.specs.Text.{cert_head, script_head}
 use Rattle.p9_seal.specs.Sections.{SameStatements, statements_in}

@@ -7,8 +7,9 @@ use Rattle.std.specs.Option.{option_map}
 use Rattle.std.specs.Str.{bytes_eq}
 use Rattle.p9_base.specs.Line.{is_blank}
 use Rattle.p9_base.specs.Results.{and_then, try_fold}
-use Rattle.p9_prepared.specs.Bundle.{Reading, Texts, begun, continued, may_follow}
-use Rattle.p9_prepared.specs.Bundle.{section_of, with_line, with_line_in, with_numbered_line}
+use Rattle.p9_prepared.specs.Section.{may_follow, section_of}
+use Rattle.p9_prepared.specs.Bundle.{Reading, Texts, begun, continued, with_line, with_line_in}
+use Rattle.p9_prepared.specs.Bundle.{with_numbered_line}
 use Rattle.p9_prepared.specs.Bundle.{with_section}
 use Rattle.p9_seal.specs.Text.{cert_head, script_head}
 

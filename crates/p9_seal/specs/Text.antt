@@ -1,9 +1,11 @@
 -- The bytes of an input with a certificate in its place.
 use Rattle.std.specs.Prelude.{ℕ, ◌-◌, ◌==◌, ◌&&◌, ◌||◌, Bool, not, nat_lt, List, [], ◌∷◌, ◌++◌}
-use Rattle.std.specs.Prelude.{codes, length, take, drop, if◌then◌else◌}
+use Rattle.std.specs.Prelude.{length, take, drop, if◌then◌else◌}
 use Rattle.std.specs.List.{flat_map, prefix_len, slice_index_or}
 use Rattle.std.specs.Str.{bytes_eq}
 use Rattle.p9_base.specs.Line.{lines_of}
+use Rattle.p9_prepared.specs.Section.{head_of}
+use Rattle.p9_prepared.specs.declared.section.Section.TheVariants.{Cert, Script}
 
 -- whether the last line is empty
 abbrev pub ends_empty : List (List ℕ) → Bool
@@ -22,10 +24,10 @@ ended line = line ++ 10 ∷ []
 
 -- the lines that begin the sections of a certificate and of a script
 abbrev pub cert_head : List ℕ
-cert_head = codes "%% cert"
+cert_head = head_of Cert
 
 abbrev pub script_head : List ℕ
-script_head = codes "%% script"
+script_head = head_of Script
 
 -- the line begins a script
 abbrev pub begins_script : List ℕ → Bool

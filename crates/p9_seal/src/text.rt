@@ -7,6 +7,7 @@ ghost use Rattle.p9_seal.specs.Text.{begins_certificate_or_script, begins_script
 ghost use Rattle.p9_seal.specs.Text.{lines_after, lines_before, sealed_text, whole_lines};
 
 use p9_base::{NoMemory, lines};
+use p9_prepared::Section;
 use std::alloc::{AllocError, Allocator};
 
 /// The input with this text as the section of its certificate. One that is there is replaced, and
@@ -25,7 +26,7 @@ pub(crate) fn with_certificate<A: Allocator + Copy>(
     let lines = lines.as_slice();
     let mut text = String::new(alloc);
     push_lines(lines_before(lines), &mut text)?;
-    push_line("%% cert", &mut text)?;
+    push_line(Section::Cert.head(), &mut text)?;
     text.push_str(certificate)?;
     push_lines(lines_after(lines), &mut text)?;
     Ok(text)
@@ -57,14 +58,14 @@ fn whole_lines<A: Allocator + Copy>(alloc: A, text: &str) -> Result<Vec<&str, A>
 fn begins_script(line: &str) -> bool
     ensures { result ≡ begins_script line.now }
 {
-    line == "%% script"
+    line == Section::Script.head()
 }
 
 // Whether the line begins a certificate, or a script, which is after it.
 fn begins_certificate_or_script(line: &str) -> bool
     ensures { result ≡ begins_certificate_or_script line.now }
 {
-    line == "%% cert" || begins_script(line)
+    line == Section::Cert.head() || begins_script(line)
 }
 
 // How many lines are before the place of a certificate.
