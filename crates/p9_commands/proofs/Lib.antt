@@ -2,7 +2,7 @@ mod Plays
 mod Prints
 mod Machines
 mod Judgements
-mod Guards
+mod Guarding
 mod Ends
 mod Offers
 mod Alikes

@@ -1,7 +1,7 @@
 use Rattle.std.proofs.Common.{IfErr, IfOk, Ok, subst, ◌≡◌}
 use Rattle.p9_commands.specs.Guards.{guard_in}
 use Rattle.p9_prepared.specs.Refusal.{IsStop}
-use Rattle.p9_commands.proofs.Guards.{guard-ok, guard-stop}
+use Rattle.p9_commands.proofs.Guarding.{guard-ok, guard-stop}
 use Rattle.p9_commands.proofs.guards.guard_of.Goals as goal
 
 pub returns-in-Some-clause-ok : goal.returns-in-Some-clause-ok
