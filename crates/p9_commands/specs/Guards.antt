@@ -1,5 +1,5 @@
 -- What serves a name space: an exporter, or a guard over one.
-use Rattle.std.specs.Prelude.{List, Option, Result, Ok, Err}
+use Rattle.std.specs.Prelude.{List, Result, Ok, Err}
 use Rattle.std.specs.Option.{option_map_or}
 use Rattle.p9_base.specs.declared.node_ref.NodeRef.{NodeRef}
 use Rattle.p9_step.specs.State.{State}
