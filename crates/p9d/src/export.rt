@@ -2,7 +2,8 @@
 
 use crate::PROGRAM;
 use crate::counting::nodes_of;
-use crate::keeping::{Trees, keep_in};
+use crate::keeping::keep_in;
+use crate::kept_tree::KeptTree;
 use crate::words::Asked;
 use p9_base::{NoMemory, NodeRef, User};
 use p9_commands::guard_of;
@@ -19,8 +20,8 @@ use std::fs;
 
 /// What is served: the guard over an export, and what is known of that.
 #[derive(Drop)]
-pub(crate) struct Export {
-    pub guard: Guard<Trees>,
+pub(crate) struct Export<T: Tree> {
+    pub guard: Guard<T>,
     pub about: About,
     /// The folder in which changes are kept, if they are kept.
     pub folder: Option<Folder>,
@@ -49,17 +50,24 @@ enum Place<'a> {
 
 /// Reads the export of a file, and verifies its certificate. Where changes were kept, its trees are those
 /// that were kept, and a certificate over these is verified. Where it can't be served, that is reported.
-pub(crate) fn read_export(rt: &HostRuntime, asked: Asked<'_>) -> Result<Export, Failure> {
+pub(crate) fn read_export<T: KeptTree>(
+    rt: &HostRuntime,
+    asked: Asked<'_>,
+) -> Result<Export<T>, Failure> {
     let input = PROGRAM.had(rt, asked.export, fs::read(rt, asked.export))?;
     match export_of(rt, input.as_slice(), asked)? {
         Some(export) => Ok(export),
-        None => Err(say_why(rt, asked.export, input.as_slice())),
+        None => Err(say_why::<T>(rt, asked.export, input.as_slice())),
     }
 }
 
 // The export of an input, unless the input has a fault or no certificate without a gap.
-fn export_of(rt: &HostRuntime, input: &[u8], asked: Asked<'_>) -> Result<Option<Export>, Failure> {
-    match prepare::<Trees>(rt.alloc(), input, Needs::Certificate) {
+fn export_of<T: KeptTree>(
+    rt: &HostRuntime,
+    input: &[u8],
+    asked: Asked<'_>,
+) -> Result<Option<Export<T>>, Failure> {
+    match prepare::<T>(rt.alloc(), input, Needs::Certificate) {
         Ok(prepared) => guarded(rt, input, prepared, asked),
         Err(_) => Ok(None),
     }
@@ -67,12 +75,12 @@ fn export_of(rt: &HostRuntime, input: &[u8], asked: Asked<'_>) -> Result<Option<
 
 // The export of an input that is prepared, where its certificate has no gap. In a folder another
 // certificate takes its place. So it is verified before a folder is given to the input, and not again.
-fn guarded(
+fn guarded<T: KeptTree>(
     rt: &HostRuntime,
     input: &[u8],
-    prepared: Prepared<Trees>,
+    prepared: Prepared<T>,
     asked: Asked<'_>,
-) -> Result<Option<Export>, Failure> {
+) -> Result<Option<Export<T>>, Failure> {
     let place = place_of(rt, input, asked.folder);
     if matches!(place, Place::New(_)) && prepared.gap().is_some() {
         prepared.discard();
@@ -98,10 +106,10 @@ fn place_of<'a>(rt: &HostRuntime, input: &[u8], folder: Option<&'a str>) -> Plac
 }
 
 // What is known of an input that is prepared, once it has the trees that are kept.
-fn made_ready(
+fn made_ready<T: KeptTree>(
     rt: &HostRuntime,
     input: &[u8],
-    prepared: &mut Prepared<Trees>,
+    prepared: &mut Prepared<T>,
     asked: Asked<'_>,
     place: Place<'_>,
 ) -> Result<(About, Option<Folder>), Failure> {
@@ -133,7 +141,11 @@ fn taken(
 }
 
 // The guard of an input that is prepared, with what is known of it.
-fn with_guard(prepared: Prepared<Trees>, about: About, folder: Option<Folder>) -> Option<Export> {
+fn with_guard<T: KeptTree>(
+    prepared: Prepared<T>,
+    about: About,
+    folder: Option<Folder>,
+) -> Option<Export<T>> {
     match guard_of(prepared) {
         Ok(guard) => Some(Export {
             guard,
@@ -145,23 +157,27 @@ fn with_guard(prepared: Prepared<Trees>, about: About, folder: Option<Folder>) -
 }
 
 // Says why an export can't be served, as `p9_admin explain` does.
-fn say_why(rt: &HostRuntime, file: &str, input: &[u8]) -> Failure {
-    match explained(rt, file, input) {
+fn say_why<T: KeptTree>(rt: &HostRuntime, file: &str, input: &[u8]) -> Failure {
+    match explained::<T>(rt, file, input) {
         Ok(()) => PROGRAM.refuse(rt, file, &"not served", Failure::Refused),
         Err(failure) => failure,
     }
 }
 
 // Says what is wrong with an export.
-fn explained(rt: &HostRuntime, file: &str, input: &[u8]) -> Result<(), Failure> {
+fn explained<T: KeptTree>(rt: &HostRuntime, file: &str, input: &[u8]) -> Result<(), Failure> {
     let mut text = Vec::new(rt.alloc());
-    let _ = explain::<Trees>(file, input, &mut text)?;
+    let _ = explain::<T>(file, input, &mut text)?;
     Ok(tell(rt, text.as_slice())?)
 }
 
 // What is known of an input that is prepared. One that hides nothing is refused, unless it is to be
 // served anyway.
-fn known(rt: &HostRuntime, prepared: &Prepared<Trees>, is_anyway: bool) -> Result<About, Failure> {
+fn known<T: KeptTree>(
+    rt: &HostRuntime,
+    prepared: &Prepared<T>,
+    is_anyway: bool,
+) -> Result<About, Failure> {
     let world = &prepared.space.world;
     if world.hidden.is_empty() && !is_anyway {
         eprintln!(rt; "p9d: the export hides nothing; --anyway serves it")?;
@@ -180,7 +196,7 @@ fn known(rt: &HostRuntime, prepared: &Prepared<Trees>, is_anyway: bool) -> Resul
 
 impl About {
     // Adds what is known of an input that is prepared.
-    fn fill(&mut self, prepared: &Prepared<Trees>) -> Result<(), NoMemory> {
+    fn fill<T: KeptTree>(&mut self, prepared: &Prepared<T>) -> Result<(), NoMemory> {
         let space = &prepared.space;
         self.users.extend_from_slice(space.world.users.as_slice())?;
         print_reports(space.reports.as_slice(), &mut self.reports)?;
@@ -189,10 +205,7 @@ impl About {
 }
 
 // Adds a line that says what is served: how many trees, files and users there are, and what is hidden.
-fn push_about<T: Tree<Alloc = Global>>(
-    world: &World<T>,
-    text: &mut String,
-) -> Result<(), NoMemory> {
+fn push_about<T: KeptTree>(world: &World<T>, text: &mut String) -> Result<(), NoMemory> {
     write!(
         text,
         "p9d: trees: {}, files and directories: {}, users: {}, ",
@@ -207,10 +220,7 @@ fn push_about<T: Tree<Alloc = Global>>(
 }
 
 // Adds what is hidden.
-fn push_hidden<T: Tree<Alloc = Global>>(
-    world: &World<T>,
-    text: &mut String,
-) -> Result<(), NoMemory> {
+fn push_hidden<T: KeptTree>(world: &World<T>, text: &mut String) -> Result<(), NoMemory> {
     let mut before = "hidden: ";
     for dir in world.hidden.as_slice() {
         push_dir(world, *dir, before, text)?;
@@ -220,7 +230,7 @@ fn push_hidden<T: Tree<Alloc = Global>>(
 }
 
 // Adds the path of a directory after a text.
-fn push_dir<T: Tree<Alloc = Global>>(
+fn push_dir<T: KeptTree>(
     world: &World<T>,
     dir: NodeRef,
     before: &str,

@@ -3,12 +3,13 @@
 use crate::counting::size_of;
 use crate::gate::Gate;
 use crate::journal::Level;
-use crate::keeping::{Changes, Trees, failed};
-use crate::serve::Served;
+use crate::keeping::failed;
+use crate::kept_tree::KeptTree;
 use crate::visit::Shared;
+use p9_conn::Stream;
 use p9_folder::{Folder, forget_start};
 use p9_guard::Guard;
-use p9_serve::Tally;
+use p9_serve::{Clients, Tally};
 use p9_shell::Failure;
 use p9_tree::Unsettled;
 use std::fmt::{self, Display};
@@ -47,7 +48,12 @@ impl Keeper {
     /// Turns of the clients. Where a change is not in the file yet, the first ones are held: no reply
     /// leaves in them. Then all that was changed is brought into the file, or to the disk, and replies
     /// leave in the last ones. Where changes can't be kept, none leaves from then on.
-    pub fn turns(&self, clients: &mut Served, clock: u32, gate: &Gate) -> Result<Tally, Unsettled> {
+    pub fn turns<S: Stream + Drop, T: KeptTree>(
+        &self,
+        clients: &mut Clients<S, T>,
+        clock: u32,
+        gate: &Gate,
+    ) -> Result<Tally, Unsettled> {
         let mut held = Tally {
             moved: 0,
             closed: 0,
@@ -62,7 +68,10 @@ impl Keeper {
     }
 
     // Brings all that was changed into the file, or to the disk.
-    fn keep(&self, clients: &mut Served) -> Result<(), Unsettled> {
+    fn keep<S: Stream + Drop, T: KeptTree>(
+        &self,
+        clients: &mut Clients<S, T>,
+    ) -> Result<(), Unsettled> {
         if self.seconds == 0 {
             clients.sync()
         } else {
@@ -71,7 +80,11 @@ impl Keeper {
     }
 
     // Turns of the clients, before which all that was changed is in the file, or on the disk.
-    fn kept_turns(&self, clients: &mut Served, clock: u32) -> Result<Tally, Unsettled> {
+    fn kept_turns<S: Stream + Drop, T: KeptTree>(
+        &self,
+        clients: &mut Clients<S, T>,
+        clock: u32,
+    ) -> Result<Tally, Unsettled> {
         if self.seconds == 0 {
             clients.synced_turns(clock)
         } else {
@@ -81,10 +94,10 @@ impl Keeper {
 
     /// Brings all changes to the disk, where that is due: by a snapshot in the place of a journal that has
     /// grown long, and else by a sync.
-    pub fn begin_second(
+    pub fn begin_second<S: Stream + Drop, T: KeptTree>(
         &mut self,
         now: u64,
-        clients: &mut Served,
+        clients: &mut Clients<S, T>,
         shared: &Shared,
     ) -> Result<(), Unsettled> {
         if now.saturating_sub(self.synced) < self.seconds {
@@ -99,7 +112,11 @@ impl Keeper {
 
     // Puts a snapshot in the place of a journal that has grown long, and returns whether it did. Then all
     // changes are on the disk, also those that the journal had not synced.
-    fn renew(&mut self, clients: &mut Served, shared: &Shared) -> Result<bool, Unsettled> {
+    fn renew<S: Stream + Drop, T: KeptTree>(
+        &mut self,
+        clients: &mut Clients<S, T>,
+        shared: &Shared,
+    ) -> Result<bool, Unsettled> {
         let Some(mut journal) = clients.take_journal() else {
             return Err(Unsettled::NoJournal);
         };
@@ -108,62 +125,66 @@ impl Keeper {
             None => most_over(size_of(clients.forest())),
         };
         let mut is_renewed = false;
-        if journal.len() < most {
+        if T::len(&journal) < most {
             self.most = Some(most);
         } else {
-            match journal.renew(clients.forest()) {
+            match T::renew(&mut journal, clients.forest()) {
                 Ok(()) => is_renewed = true,
-                Err(_) => shared.tell(Level::Warning, &NoSnapshot(journal.device().last_error())),
+                Err(_) => shared.tell(Level::Warning, &NoSnapshot(T::last_error(&journal))),
             }
-            self.most = Some(most_over(journal.len()));
+            self.most = Some(most_over(T::len(&journal)));
         }
         clients.keep(journal);
         Ok(is_renewed)
     }
 
     /// Brings all changes to the disk.
-    pub fn end(&self, rt: &HostRuntime, guard: &mut Guard<Trees>) -> Result<(), Failure> {
+    pub fn end<T: KeptTree>(&self, rt: &HostRuntime, guard: &mut Guard<T>) -> Result<(), Failure> {
         match guard.sync() {
             Ok(()) => Ok(()),
             Err(_) => {
                 let journal = guard.take_journal();
-                Err(self.failed(rt, journal))
+                Err(self.failed::<T>(rt, journal))
             }
         }
     }
 
     /// Reports why changes can't be kept any more.
-    pub fn fail(&self, rt: &HostRuntime, clients: &mut Served) -> Failure {
+    pub fn fail<S: Stream + Drop, T: KeptTree>(
+        &self,
+        rt: &HostRuntime,
+        clients: &mut Clients<S, T>,
+    ) -> Failure {
         let journal = clients.take_journal();
-        self.failed(rt, journal)
+        self.failed::<T>(rt, journal)
     }
 
     // Reports why changes can't be kept any more. After a sync that failed it isn't known what of the
     // file the system still has, so the next server takes what was synced before.
-    fn failed(&self, rt: &HostRuntime, journal: Option<Changes>) -> Failure {
+    fn failed<T: KeptTree>(&self, rt: &HostRuntime, journal: Option<T::Journal>) -> Failure {
         let Some(journal) = journal else {
             return Failure::Failed;
         };
-        if journal.device().is_unsure() {
+        if T::is_unsure(&journal) {
             let _ = forget_start(rt, &self.folder);
         }
-        let failure = failed(rt, &self.folder, &journal);
+        let failure = failed::<T>(rt, &self.folder, &journal);
         drop(journal);
         failure
     }
 }
 
 // Whether nothing was changed since all of it was in the file.
-fn is_settled(clients: &Served) -> bool {
+fn is_settled<S: Stream + Drop, T: KeptTree>(clients: &Clients<S, T>) -> bool {
     match clients.forest().journal() {
-        Some(journal) => journal.is_settled(),
+        Some(journal) => T::is_settled(journal),
         None => true,
     }
 }
 
 // Turns of the clients, as long as they move something. They end where many did, or where so much was
 // changed that the journal was settled between two of them.
-fn held_turns(clients: &mut Served, clock: u32) -> Tally {
+fn held_turns<S: Stream + Drop, T: KeptTree>(clients: &mut Clients<S, T>, clock: u32) -> Tally {
     let mut held = Tally {
         moved: 0,
         closed: 0,

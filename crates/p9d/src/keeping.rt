@@ -1,56 +1,34 @@
-//! What is kept of an export, and the journal that keeps it.
+//! What is kept of an export.
+
+ghost use Rattle.p9_tree.specs.Journal.{Keeps};
 
 use crate::PROGRAM;
+use crate::kept_tree::{KeptTree, Opened};
 use p9_base::NoMemory;
-use p9_disk::FileDevice;
-use p9_folder::{Folder, Found, JOURNAL, go_on_with, last_crash, note_start, reopen_for};
-use p9_index::IndexTree;
+use p9_folder::{Folder, Found, go_on_with, last_crash, note_start};
 use p9_judge::{Verdict, judge};
-use p9_kept::{FileJournal, Refused, ReopenError, Reopened};
+use p9_kept::Refused;
 use p9_log::Crash;
-use p9_prepared::{NameSpace, Prepared};
+use p9_prepared::Prepared;
 use p9_shell::{Failure, tell};
 use p9_shown::AsShown;
 use p9_tree::Forest;
-use std::alloc::Global;
 use std::fmt::Display;
-
-/// What keeps the changes of the trees that are served.
-pub(crate) type Changes = FileJournal<FileDevice, Global>;
-
-/// The trees that are served.
-pub(crate) type Trees = IndexTree<Global, Changes>;
-
-// What is kept in a folder.
-#[derive(Drop)]
-enum Kept {
-    // No trees. A journal is there for them.
-    Nothing(Changes),
-    // Trees, whose changes are kept.
-    Trees(Forest<Trees>),
-}
 
 /// Gives an input that is prepared the trees that are kept in a folder, with a certificate over them,
 /// and the journal in which their changes are kept. In a folder without trees its own are kept.
-pub(crate) fn keep_in(
+pub(crate) fn keep_in<T: KeptTree>(
     rt: &HostRuntime,
     folder: &Folder,
-    prepared: &mut Prepared<Trees>,
+    prepared: &mut Prepared<T>,
 ) -> Result<(), Failure> {
     let how = last_crash(rt, folder.path());
-    let (kept, found) = opened(rt, folder, how, &mut prepared.space)?;
+    let opened = T::open(rt, folder, how, &mut prepared.space)?;
     match noted(rt, folder, how) {
-        Ok(()) => {}
+        Ok(()) => take_in(rt, folder, how, opened, prepared),
         Err(failure) => {
-            drop(kept);
-            return Err(failure);
-        }
-    }
-    match kept {
-        Kept::Nothing(journal) => begin(rt, folder, journal, found, prepared),
-        Kept::Trees(forest) => {
-            tell_of(rt, folder, &found)?;
-            go_on(rt, folder, forest, prepared)
+            drop(opened);
+            Err(failure)
         }
     }
 }
@@ -63,51 +41,45 @@ fn noted(rt: &HostRuntime, folder: &Folder, how: Crash) -> Result<(), Failure> {
     }
 }
 
-// What is kept in a folder, and what was found there. Where trees are kept those of a name space are
-// bare then, since it goes on with the others.
-fn opened(
+// Gives an input that is prepared the trees that were opened. Where there are none, its own are kept.
+fn take_in<T: KeptTree>(
     rt: &HostRuntime,
     folder: &Folder,
     how: Crash,
-    space: &mut NameSpace<Trees>,
-) -> Result<(Kept, Found), Failure> {
-    let place = folder.place(rt, JOURNAL)?;
-    let device = PROGRAM.had(
-        rt,
-        place.as_str(),
-        FileDevice::open(rt, folder.path(), JOURNAL),
-    )?;
-    let Reopened {
+    opened: Opened<T>,
+    prepared: &mut Prepared<T>,
+) -> Result<(), Failure>
+    requires { Keeps T.Journal.is_whole T.Journal.stands_for opened.journal opened.forest }
+{
+    let Opened {
         forest,
         journal,
         left_out,
-    } = match reopen_for::<FileDevice, Global, Trees>(rt.alloc(), device, how, space) {
-        Ok(reopened) => reopened,
-        Err(error) => return Err(refuse(rt, folder, error)),
-    };
+    } = opened;
     let found = Found { how, left_out };
     if forest.trees().is_empty() {
         drop(forest);
-        return Ok((Kept::Nothing(journal), found));
+        return begin(rt, folder, journal, found, prepared);
     }
     let mut forest = forest;
     forest.keep(journal);
-    Ok((Kept::Trees(forest), found))
-}
-
-// Reports why what is kept in a folder can't be read.
-fn refuse(rt: &HostRuntime, folder: &Folder, error: ReopenError) -> Failure {
-    PROGRAM.refuse(rt, folder.path(), &error, Failure::Refused)
+    match tell_of(rt, folder, &found) {
+        Ok(()) => go_on(rt, folder, forest, prepared),
+        Err(failure) => {
+            drop(forest);
+            Err(failure)
+        }
+    }
 }
 
 // Keeps the trees of an input in a folder that has none. A journal that has something, of which nothing
 // counts, is damaged: its first trees come into their place whole.
-fn begin(
+fn begin<T: KeptTree>(
     rt: &HostRuntime,
     folder: &Folder,
-    journal: Changes,
+    journal: T::Journal,
     found: Found,
-    prepared: &mut Prepared<Trees>,
+    prepared: &mut Prepared<T>,
 ) -> Result<(), Failure> {
     let mut journal = journal;
     if found.is_cut() {
@@ -115,13 +87,13 @@ fn begin(
         return Err(PROGRAM.refuse(rt, folder.path(), &Refused::Damaged, Failure::Refused));
     }
     let forest = &mut prepared.space.world.forest;
-    match journal.renew(forest) {
+    match T::renew(&mut journal, forest) {
         Ok(()) => {
             forest.keep(journal);
             tell_of(rt, folder, &"begins with the trees of the export")
         }
-        Err(error) => {
-            let failure = failed(rt, folder, &journal);
+        Err(_) => {
+            let failure = failed::<T>(rt, folder, &journal);
             drop(journal);
             Err(failure)
         }
@@ -129,11 +101,11 @@ fn begin(
 }
 
 // Gives an input that is prepared the trees that were kept, with a certificate over them.
-fn go_on(
+fn go_on<T: KeptTree>(
     rt: &HostRuntime,
     folder: &Folder,
-    forest: Forest<Trees>,
-    prepared: &mut Prepared<Trees>,
+    forest: Forest<T>,
+    prepared: &mut Prepared<T>,
 ) -> Result<(), Failure> {
     let space = &mut prepared.space;
     if !go_on_with(space, forest) {
@@ -160,8 +132,12 @@ fn tell_of<D: Display>(rt: &HostRuntime, folder: &Folder, what: &D) -> Result<()
 }
 
 /// Reports why changes can't be kept.
-pub(crate) fn failed(rt: &HostRuntime, folder: &Folder, journal: &Changes) -> Failure {
-    match journal.device().last_error() {
+pub(crate) fn failed<T: KeptTree>(
+    rt: &HostRuntime,
+    folder: &Folder,
+    journal: &T::Journal,
+) -> Failure {
+    match T::last_error(journal) {
         Some(error) => PROGRAM.failed(rt, folder.path(), error),
         None => Failure::NoMemory,
     }

@@ -13,6 +13,7 @@ mod gate;
 mod journal;
 mod keeper;
 mod keeping;
+mod kept_tree;
 mod peer;
 mod serve;
 mod visit;
@@ -22,10 +23,11 @@ mod words;
 
 use crate::address::{Address, BadAddress, address_of};
 use crate::check::check;
+use crate::client::{Client, Coming, Visiting};
 use crate::door::{Door, close_doors};
 use crate::export::{About, Export, read_export};
 use crate::keeper::Keeper;
-use crate::keeping::Trees;
+use crate::kept_tree::{KeptTree, Trees};
 use crate::serve::Daemon;
 use crate::visitors::Visitors;
 use crate::words::{Asked, SHAPE, asked_in};
@@ -65,23 +67,29 @@ fn run_words(rt: &HostRuntime, matches: &ArgMatches<'_>) -> Result<u8, Failure> 
         return Err(PROGRAM.refuse(rt, "-s", &"nothing is kept without -d", Failure::BadWords));
     }
     match (asked_in(matches), matches.get_strs("address")) {
-        (Some(asked), Some(addresses)) => run_asked(rt, asked, addresses),
+        (Some(asked), Some(addresses)) => run_asked::<Client<Visiting>, Trees>(
+            rt, asked, addresses,
+        ),
         _ => Err(PROGRAM.bad_words(rt)),
     }
 }
 
 // Serves an export at addresses.
-fn run_asked(rt: &HostRuntime, asked: Asked<'_>, texts: &[&str]) -> Result<u8, Failure> {
+fn run_asked<S: Coming, T: KeptTree>(
+    rt: &HostRuntime,
+    asked: Asked<'_>,
+    texts: &[&str],
+) -> Result<u8, Failure> {
     let addresses = addresses_of(rt, texts)?;
     let Export {
         guard,
         about,
         folder,
-    } = read_export(rt, asked)?;
+    } = read_export::<T>(rt, asked)?;
     let keeper = folder.map(|folder| Keeper::new(folder, asked.sync_seconds));
     let mut doors = Vec::new(rt.alloc());
     match open_doors(rt, asked.export, &about, addresses.as_slice(), &mut doors) {
-        Ok(()) => serve_doors(rt, asked, doors, keeper, guard),
+        Ok(()) => serve_doors::<S, T>(rt, asked, doors, keeper, guard),
         Err(failure) => {
             close_doors(rt, doors.as_slice());
             drop(guard);
@@ -91,16 +99,16 @@ fn run_asked(rt: &HostRuntime, asked: Asked<'_>, texts: &[&str]) -> Result<u8, F
 }
 
 // Serves a guard to who comes to these doors.
-fn serve_doors(
+fn serve_doors<S: Coming, T: KeptTree>(
     rt: &HostRuntime,
     asked: Asked<'_>,
     doors: Vec<Door>,
     keeper: Option<Keeper>,
-    guard: Guard<Trees>,
+    guard: Guard<T>,
 ) -> Result<u8, Failure> {
     match Visitors::new(rt.alloc(), asked.limits, asked.is_quiet) {
         Ok(visitors) => {
-            Daemon::new(doors, visitors, keeper).serve(rt, guard)?;
+            Daemon::new(doors, visitors, keeper).serve::<S, T>(rt, guard)?;
             Ok(DONE)
         }
         Err(error) => {

@@ -1,20 +1,16 @@
 //! The rounds: clients are taken in at each address, and each has a turn.
 
-use crate::address::copy_of;
-use crate::client::{Client, Visiting};
+use crate::client::Coming;
 use crate::door::{Arrival, Door, Origin, close_doors, shown_origin};
 use crate::end::{has_ended, is_pipe};
 use crate::gate::Gated;
 use crate::journal::Level;
 use crate::keeper::Keeper;
-use crate::keeping::Trees;
-use crate::peer::Peer;
-use crate::visit::{Shared, Visit, Visited};
+use crate::kept_tree::KeptTree;
+use crate::visit::{Shared, Visit};
 use crate::visitors::Visitors;
-use p9_base::User;
 use p9_guard::Guard;
-use p9_restricted::Restricted;
-use p9_serve::{Clients, Pace, Round, Socket, Tally};
+use p9_serve::{Clients, Pace, Round, Tally};
 use p9_shell::Failure;
 use p9_tree::Unsettled;
 use std::alloc::{AllocError, Global};
@@ -23,9 +19,6 @@ use std::net::SocketAddr;
 use std::rc::Rc;
 use std::thread;
 use std::time::{SystemTime, UNIX_EPOCH};
-
-/// The clients of a guard.
-pub(crate) type Served = Clients<Client, Trees>;
 
 // Why the rounds end before the standard input has.
 #[derive(Drop)]
@@ -80,8 +73,12 @@ impl Daemon {
 
     /// Serves a guard until the standard input, where that is a pipe, has ended. Then all sessions are
     /// closed. Where changes can't be kept any more it ends before any reply that tells of them.
-    pub fn serve(mut self, rt: &HostRuntime, guard: Guard<Trees>) -> Result<(), Failure> {
-        let mut clients = Clients::new(rt.alloc(), guard);
+    pub fn serve<S: Coming, T: KeptTree>(
+        mut self,
+        rt: &HostRuntime,
+        guard: Guard<T>,
+    ) -> Result<(), Failure> {
+        let mut clients: Clients<S, T> = Clients::new(rt.alloc(), guard);
         let done = self.rounds(rt, &mut clients);
         let ended = self.end(rt, done, clients);
         self.close(rt);
@@ -89,7 +86,11 @@ impl Daemon {
     }
 
     // Serves clients until the standard input, where that is a pipe, has ended.
-    fn rounds(&mut self, rt: &HostRuntime, clients: &mut Served) -> Result<(), Stop> {
+    fn rounds<S: Coming, T: KeptTree>(
+        &mut self,
+        rt: &HostRuntime,
+        clients: &mut Clients<S, T>,
+    ) -> Result<(), Stop> {
         let ends = is_pipe(rt);
         for _ in 0..u64::MAX {
             self.rest(rt);
@@ -106,11 +107,11 @@ impl Daemon {
     }
 
     // Closes all sessions, and brings all changes to the disk, where changes could be kept so far.
-    fn end(
+    fn end<S: Coming, T: KeptTree>(
         &self,
         rt: &HostRuntime,
         done: Result<(), Stop>,
-        clients: Served,
+        clients: Clients<S, T>,
     ) -> Result<(), Failure> {
         let mut clients = clients;
         match (done, &self.keeper) {
@@ -133,7 +134,10 @@ impl Daemon {
     }
 
     // Lets the keeper do what is due in a new second.
-    fn begin_second(&mut self, clients: &mut Served) -> Result<(), Unsettled> {
+    fn begin_second<S: Coming, T: KeptTree>(
+        &mut self,
+        clients: &mut Clients<S, T>,
+    ) -> Result<(), Unsettled> {
         let shared = &self.visitors.shared;
         match &mut self.keeper {
             Some(keeper) => keeper.begin_second(shared.now.get(), clients, shared),
@@ -142,7 +146,10 @@ impl Daemon {
     }
 
     // Turns of the clients.
-    fn turns(&self, clients: &mut Served) -> Result<Tally, Unsettled> {
+    fn turns<S: Coming, T: KeptTree>(
+        &self,
+        clients: &mut Clients<S, T>,
+    ) -> Result<Tally, Unsettled> {
         match &self.keeper {
             Some(keeper) => keeper.turns(clients, self.clock(), &self.visitors.shared.gate),
             None => Ok(clients.turns(self.clock())),
@@ -175,7 +182,11 @@ impl Daemon {
     }
 
     // A round, as that of `p9 serve`, with an accept at each door.
-    fn round(&mut self, alloc: Global, clients: &mut Served) -> Result<(), Unsettled> {
+    fn round<S: Coming, T: KeptTree>(
+        &mut self,
+        alloc: Global,
+        clients: &mut Clients<S, T>,
+    ) -> Result<(), Unsettled> {
         let accepted = if self.pace.is_due() || clients.is_empty() {
             self.accept_all(alloc, clients)
         } else {
@@ -194,7 +205,11 @@ impl Daemon {
     }
 
     // Takes in a client at each door, where one waits. Returns how many were taken in.
-    fn accept_all(&mut self, alloc: Global, clients: &mut Served) -> u64 {
+    fn accept_all<S: Coming, T: KeptTree>(
+        &mut self,
+        alloc: Global,
+        clients: &mut Clients<S, T>,
+    ) -> u64 {
         let mut accepted = 0u64;
         for number in 0..self.doors.len() {
             if self.accept_at(alloc, number, clients) {
@@ -205,7 +220,12 @@ impl Daemon {
     }
 
     // Takes in a client at a door, where one waits.
-    fn accept_at(&mut self, alloc: Global, number: usize, clients: &mut Served) -> bool {
+    fn accept_at<S: Coming, T: KeptTree>(
+        &mut self,
+        alloc: Global,
+        number: usize,
+        clients: &mut Clients<S, T>,
+    ) -> bool {
         let Some(door) = self.doors.get_mut(number) else {
             return false;
         };
@@ -229,16 +249,16 @@ impl Daemon {
 }
 
 // Takes in a client that came to a door of this number. Returns whether it is there.
-fn take_in(
+fn take_in<S: Coming, T: KeptTree>(
     alloc: Global,
     visitors: &mut Visitors,
     door: (usize, &Door),
     arrival: Arrival,
-    clients: &mut Served,
+    clients: &mut Clients<S, T>,
 ) -> bool {
     let Arrival { peer, address } = arrival;
     let client = match admitted(alloc, visitors, door, address) {
-        Ok(Some(visit)) => client_of(alloc, peer, visit, &visitors.shared, &door.1.users),
+        Ok(Some(visit)) => S::of(alloc, peer, visit, &visitors.shared, &door.1.users),
         Ok(None) => return false,
         Err(error) => Err(error),
     };
@@ -267,37 +287,6 @@ fn admitted(
     };
     let from = shown_origin(alloc, address, door)?;
     visitors.admit(origin, from)
-}
-
-// The stream of a client, who may attach as these users, if not as all.
-fn client_of(
-    alloc: Global,
-    peer: Peer,
-    visit: Rc<Visit>,
-    shared: &Rc<Shared>,
-    users: &Option<Vec<User>>,
-) -> Result<Client, AllocError> {
-    let stream = visited(alloc, peer, visit, shared)?;
-    match users {
-        None => Ok(Client::Any(stream)),
-        Some(users) => {
-            let users = copy_of(alloc, users.as_slice())?;
-            Ok(Client::Some(Restricted::new(stream, users)))
-        }
-    }
-}
-
-// The stream of a visit.
-fn visited(
-    alloc: Global,
-    peer: Peer,
-    visit: Rc<Visit>,
-    shared: &Rc<Shared>,
-) -> Result<Visiting, AllocError> {
-    match Socket::new(alloc, Gated::new(peer, shared.clone()?)) {
-        Ok(socket) => Ok(Visited::new(alloc, socket, visit, shared.clone()?)),
-        Err(_) => Err(AllocError),
-    }
 }
 
 // Tells once that accepts fail at a door.
