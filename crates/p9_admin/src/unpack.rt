@@ -5,11 +5,11 @@ use crate::accounts::accounts_text;
 use crate::present::{Present, read_present};
 use crate::unpacking::Unpacking;
 use clap::ArgMatches;
-use p9_index::IndexTree;
 use p9_pack::Accounts;
 use p9_shell::Failure;
 use p9_shell::status::{DONE, REFUSED};
 use p9_shown::AsShown;
+use p9_tree::Tree;
 use p9_world::World;
 use std::alloc::Global;
 use std::fs::DirBuilder;
@@ -57,9 +57,9 @@ fn unpack_kept(
 }
 
 // Writes the trees of a world into a new directory, each in a directory of its server's name.
-fn unpack_world(
+fn unpack_world<T: Tree<Alloc = Global>>(
     rt: &HostRuntime,
-    world: &World<IndexTree<Global>>,
+    world: &World<T>,
     local: &str,
     accounts: Option<&Accounts<'_, Global>>,
 ) -> Result<u8, Failure> {
@@ -71,9 +71,9 @@ fn unpack_world(
 }
 
 // Writes the trees of a world, each into a directory of its server's name.
-fn unpack_trees(
+fn unpack_trees<T: Tree<Alloc = Global>>(
     rt: &HostRuntime,
-    world: &World<IndexTree<Global>>,
+    world: &World<T>,
     local: &str,
     unpacking: &mut Unpacking<'_>,
 ) -> Result<(), Failure> {

@@ -2,7 +2,6 @@
 
 use crate::PROGRAM;
 use p9_base::{FileFlags, Kind, Name};
-use p9_index::IndexTree;
 use p9_pack::Accounts;
 use p9_shell::Failure;
 use p9_shown::AsShown;
@@ -57,12 +56,12 @@ impl<'a> Unpacking<'a> {
 
     /// Writes the tree of a server into a directory of its name. What can't be written is reported, and the
     /// rest is written. The error is a failure after which nothing more can be written, as a full disk.
-    pub fn tree(
+    pub fn tree<T: Tree<Alloc = Global>>(
         &mut self,
         rt: &HostRuntime,
         local: &str,
         server: &str,
-        tree: &IndexTree<Global>,
+        tree: &T,
     ) -> Result<(), Failure> {
         let mut made = Vec::new(rt.alloc());
         let done = self.nodes(rt, local, server, tree, &mut made);
@@ -72,12 +71,12 @@ impl<'a> Unpacking<'a> {
     }
 
     // Writes the nodes of a tree by rising number, each directory before what is in it.
-    fn nodes(
+    fn nodes<T: Tree<Alloc = Global>>(
         &mut self,
         rt: &HostRuntime,
         local: &str,
         server: &str,
-        tree: &IndexTree<Global>,
+        tree: &T,
         made: &mut Vec<Made>,
     ) -> Result<(), Failure> {
         let mut number = 0;
@@ -154,10 +153,10 @@ impl<'a> Unpacking<'a> {
 
     // Gives the directories that were made what they get, the last one first: a directory is closed to
     // its owner only after those in it have theirs.
-    fn end_dirs(
+    fn end_dirs<T: Tree<Alloc = Global>>(
         &mut self,
         rt: &HostRuntime,
-        tree: &IndexTree<Global>,
+        tree: &T,
         made: &[Made],
     ) -> Result<(), Failure> {
         for dir in made.iter().rev() {

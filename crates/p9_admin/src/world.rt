@@ -5,7 +5,6 @@ use crate::present::{Present, read_present, report_stop};
 use crate::sink::write_text;
 use clap::ArgMatches;
 use p9_base::{NoMemory, NodeRef, Stop, lines, words};
-use p9_index::IndexTree;
 use p9_pack::{Unfit, UnfitNode, is_same_world, unfit_nodes, write_world};
 use p9_prepared::{
     Bundle, BundleError, NameSpace, Needs, Section, path_of, prepare, print_line, split_bundle,
@@ -14,10 +13,9 @@ use p9_shell::Failure;
 use p9_shell::status::{DONE, REFUSED};
 use p9_shown::AsShown;
 use p9_space::Member;
+use p9_tree::Tree;
 use p9_world::World;
 use std::alloc::Global;
-
-type Space = NameSpace<IndexTree<Global>>;
 
 /// Prints what is kept in a folder as an input without a certificate, or writes it into the file of the
 /// option `--output`. Returns the exit status.
@@ -34,11 +32,11 @@ pub(crate) fn run_world(rt: &HostRuntime, options: &ArgMatches<'_>) -> Result<u8
 }
 
 // The text of an input, and the exit status with which it is printed.
-fn text_in(
+fn text_in<T: Tree<Alloc = Global>>(
     rt: &HostRuntime,
     folder: &str,
     export: &[u8],
-    space: &Space,
+    space: &NameSpace<T>,
 ) -> Result<(Vec<u8>, u8), Failure> {
     refuse_unfit(rt, &space.world)?;
     let text = match input_text(rt.alloc(), export, &space.world) {
@@ -53,7 +51,10 @@ fn text_in(
 }
 
 // Reports each file or directory that a world's text can't have. Where there is one, nothing is printed.
-fn refuse_unfit(rt: &HostRuntime, world: &World<IndexTree<Global>>) -> Result<(), Failure> {
+fn refuse_unfit<T: Tree<Alloc = Global>>(
+    rt: &HostRuntime,
+    world: &World<T>,
+) -> Result<(), Failure> {
     let found = unfit_nodes(rt.alloc(), world)?;
     for node in found.as_slice() {
         report_unfit(rt, world, node)?;
@@ -62,9 +63,9 @@ fn refuse_unfit(rt: &HostRuntime, world: &World<IndexTree<Global>>) -> Result<()
 }
 
 // Reports a file or directory that a world's text can't have.
-fn report_unfit(
+fn report_unfit<T: Tree<Alloc = Global>>(
     rt: &HostRuntime,
-    world: &World<IndexTree<Global>>,
+    world: &World<T>,
     node: &UnfitNode,
 ) -> Result<(), Failure> {
     let path = path_of(rt.alloc(), world, node.at)?;
@@ -83,10 +84,10 @@ fn refuse_some(rt: &HostRuntime, count: usize) -> Result<(), Failure> {
 }
 
 // The text of an input: the present world, and the other sections of its export but for the certificate.
-fn input_text(
+fn input_text<T: Tree<Alloc = Global>>(
     alloc: Global,
     export: &[u8],
-    world: &World<IndexTree<Global>>,
+    world: &World<T>,
 ) -> Result<Vec<u8>, Stop<Unfit>> {
     let bundle = sections(alloc, export)?;
     let mut text = Vec::new(alloc);
@@ -147,8 +148,13 @@ fn push_section(
 
 // Reads a text back, and returns the exit status with which it is printed. One that is not read as the same
 // world is refused.
-fn read_back(rt: &HostRuntime, folder: &str, text: &[u8], space: &Space) -> Result<u8, Failure> {
-    match prepare::<IndexTree<Global>>(rt.alloc(), text, Needs::Nothing) {
+fn read_back<T: Tree<Alloc = Global>>(
+    rt: &HostRuntime,
+    folder: &str,
+    text: &[u8],
+    space: &NameSpace<T>,
+) -> Result<u8, Failure> {
+    match prepare::<T>(rt.alloc(), text, Needs::Nothing) {
         Ok(read) => {
             let told = told_of(rt, folder, space, &read.space);
             read.discard();
@@ -159,7 +165,12 @@ fn read_back(rt: &HostRuntime, folder: &str, text: &[u8], space: &Space) -> Resu
 }
 
 // Tells what is other in a text that was read back, and returns the exit status.
-fn told_of(rt: &HostRuntime, folder: &str, space: &Space, read: &Space) -> Result<u8, Failure> {
+fn told_of<T: Tree<Alloc = Global>>(
+    rt: &HostRuntime,
+    folder: &str,
+    space: &NameSpace<T>,
+    read: &NameSpace<T>,
+) -> Result<u8, Failure> {
     if !is_same_world(&space.world, &read.world) {
         let why = "the text is not read as the same world";
         return Err(PROGRAM.refuse(rt, folder, &why, Failure::Refused));
@@ -181,7 +192,7 @@ fn told_of(rt: &HostRuntime, folder: &str, space: &Space, read: &Space) -> Resul
 }
 
 // How many hidden directories are not there any more.
-fn gone_hidden(world: &World<IndexTree<Global>>) -> usize {
+fn gone_hidden<T: Tree<Alloc = Global>>(world: &World<T>) -> usize {
     world
         .hidden
         .iter()
@@ -190,7 +201,11 @@ fn gone_hidden(world: &World<IndexTree<Global>>) -> usize {
 }
 
 // Whether the mount tables of two name spaces are the same by the paths of their places.
-fn is_same_table(alloc: Global, one: &Space, other: &Space) -> Result<bool, NoMemory> {
+fn is_same_table<T: Tree<Alloc = Global>>(
+    alloc: Global,
+    one: &NameSpace<T>,
+    other: &NameSpace<T>,
+) -> Result<bool, NoMemory> {
     if one.table.len() != other.table.len() {
         return Ok(false);
     }
@@ -203,10 +218,10 @@ fn is_same_table(alloc: Global, one: &Space, other: &Space) -> Result<bool, NoMe
 }
 
 // Whether the rows at a position of the mount tables are the same by the paths of their places.
-fn is_same_row(
+fn is_same_row<T: Tree<Alloc = Global>>(
     alloc: Global,
-    one: &Space,
-    other: &Space,
+    one: &NameSpace<T>,
+    other: &NameSpace<T>,
     position: usize,
 ) -> Result<bool, NoMemory> {
     let (Some((key, members)), Some((other_key, other_members))) = (
@@ -228,11 +243,11 @@ fn is_same_row(
 }
 
 // Whether the members of two rows are the same by their paths.
-fn are_same_members(
+fn are_same_members<T: Tree<Alloc = Global>>(
     alloc: Global,
-    one: &Space,
+    one: &NameSpace<T>,
     members: &[Member],
-    other: &Space,
+    other: &NameSpace<T>,
     others: &[Member],
 ) -> Result<bool, NoMemory> {
     if members.len() != others.len() {
@@ -249,11 +264,11 @@ fn are_same_members(
 }
 
 // Whether two nodes have the same path.
-fn is_same_path(
+fn is_same_path<T: Tree<Alloc = Global>>(
     alloc: Global,
-    one: &Space,
+    one: &NameSpace<T>,
     at: NodeRef,
-    other: &Space,
+    other: &NameSpace<T>,
     other_at: NodeRef,
 ) -> Result<bool, NoMemory> {
     let path = path_of(alloc, &one.world, at)?;
