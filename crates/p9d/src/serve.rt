@@ -20,6 +20,9 @@ use std::rc::Rc;
 use std::thread;
 use std::time::{SystemTime, UNIX_EPOCH};
 
+// After so many turns that moved something the clock is read again.
+const TURNS_OF_A_READING: u64 = 16;
+
 // Why the rounds end before the standard input has.
 #[derive(Drop)]
 enum Stop {
@@ -100,8 +103,25 @@ impl Daemon {
                 }
                 self.begin_second(clients)?;
             }
-            self.round(rt.alloc(), clients)?;
+            self.rounds_of_a_reading(rt.alloc(), clients)?;
             self.visitors.shared.print(rt);
+        }
+        Ok(())
+    }
+
+    // Rounds after one reading of the clock. They end where nothing moved, or where so many turns did.
+    fn rounds_of_a_reading<S: Coming, T: KeptTree>(
+        &mut self,
+        alloc: Global,
+        clients: &mut Clients<S, T>,
+    ) -> Result<(), Unsettled> {
+        let mut left = TURNS_OF_A_READING;
+        for _ in 0..TURNS_OF_A_READING {
+            let moved = self.round(alloc, clients)?;
+            if moved == 0 || moved >= left {
+                break;
+            }
+            left = left.saturating_sub(moved);
         }
         Ok(())
     }
@@ -181,12 +201,13 @@ impl Daemon {
         (self.visitors.shared.now.get() % 0x1_0000_0000) as u32
     }
 
-    // A round, as that of `p9 serve`, with an accept at each door.
+    // A round, as that of `p9 serve`, with an accept at each door. Returns how many turns moved
+    // something.
     fn round<S: Coming, T: KeptTree>(
         &mut self,
         alloc: Global,
         clients: &mut Clients<S, T>,
-    ) -> Result<(), Unsettled> {
+    ) -> Result<u64, Unsettled> {
         let accepted = if self.pace.is_due() || clients.is_empty() {
             self.accept_all(alloc, clients)
         } else {
@@ -201,7 +222,7 @@ impl Daemon {
         if tally.closed > 0 {
             self.visitors.forget_gone();
         }
-        Ok(())
+        Ok(tally.moved)
     }
 
     // Takes in a client at each door, where one waits. Returns how many were taken in.
