@@ -7,3 +7,5 @@ pub mod TextPositions
 pub mod LastDirs
 pub mod Readers
 mod Refused
+mod BadLines
+mod NodeLines

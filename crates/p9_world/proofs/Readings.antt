@@ -34,7 +34,7 @@ module _ {X : Type 0} (view : X → ℕ × List (List ℕ)) (items : List X) (te
   world_of-none none = rw (made, none) refl
 
 -- a text with a bad statement
-world_of-err : (text : List ℕ) (e : ℕ × LineFault)
+pub world_of-err : (text : List ℕ) (e : ℕ × LineFault)
     → try_fold read_statement empty_world (statements_of text) ≡ Err e → world_of text ≡ Err e
 unfolding world_of
 world_of-err text e bad = rw bad refl

@@ -13,3 +13,6 @@ pub mod LastDir
 pub mod Positions
 pub mod Reader
 pub mod Read
+pub mod LineWords
+pub mod Faults
+pub mod NodeLine

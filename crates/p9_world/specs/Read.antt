@@ -8,9 +8,9 @@ use Rattle.p9_world.specs.declared.error.LineFault.{LineFault}
 use Rattle.p9_world.specs.declared.error.LineFault.TheVariants.{UnknownWord, WordCount, NoServer}
 use Rattle.p9_world.specs.declared.error.WorldError.{WorldError}
 use Rattle.p9_world.specs.declared.error.WorldError.TheVariants.{BadWorld, NoMemory}
-use Rattle.p9_world.specs.declared.read.Operation.{Operation}
-use Rattle.p9_world.specs.declared.read.Operation.TheVariants.{Server, Dir, File, User, Group, Hide}
-use Rattle.p9_world.specs.declared.read.Operation.TheVariants.{Set}
+use Rattle.p9_world.specs.declared.line_words.Operation.{Operation}
+use Rattle.p9_world.specs.declared.line_words.Operation.TheVariants.{Server, Dir, File, User, Group, Hide}
+use Rattle.p9_world.specs.declared.line_words.Operation.TheVariants.{Set}
 use Rattle.p9_world.specs.World.{World, empty_world}
 use Rattle.p9_world.specs.Server.{server_line}
 use Rattle.p9_world.specs.Entry.{dir_line, file_line, in_last_server}

@@ -12,21 +12,13 @@ ghost use Rattle.p9_world.specs.Path.{last_and_rest};
 
 use crate::error::{LineFault, Stop};
 use crate::last_dir::LastDir;
+use crate::line_words::NodeWords;
 use crate::mode::{file_mode_in, permissions_in};
 use crate::path::{names_of, take_last};
 use crate::reader::Reader;
 use p9_base::{Kind, Mode, Name, NoMemory, Permissions, User};
 use p9_tree::{FILE_MAX, NEXT_MAX, New, Tree};
 use std::alloc::Allocator;
-
-/// The words after `dir`, and after `file` up to the file's bytes.
-#[derive(Clone, Copy)]
-pub(crate) struct NodeWords<'a> {
-    pub path: &'a str,
-    pub mode: &'a str,
-    pub uid: &'a str,
-    pub gid: &'a str,
-}
 
 /// A directory joins the last server, or the root of that server is changed.
 pub(crate) fn add_dir<T: Tree>(

@@ -3,13 +3,14 @@
 ghost use Rattle.std.specs.Prelude.{◌≡◌, IfErr, IfOk, Ok, map};
 ghost use Rattle.p9_base.specs.Statement.{statement_view};
 ghost use Rattle.p9_world.specs.Meaning.{Makes};
-ghost use Rattle.p9_world.specs.Read.{Steps, Tells, line_meaning, operated, operation_of};
-ghost use Rattle.p9_world.specs.Read.{read_statement, world_of};
+ghost use Rattle.p9_world.specs.LineWords.{meant};
+ghost use Rattle.p9_world.specs.Read.{Steps, Tells, line_meaning, read_statement, world_of};
 
-use crate::entry::{NodeWords, add_dir, add_file};
+use crate::entry::{add_dir, add_file};
 use crate::error::{LineFault, Stop, WorldError};
 use crate::group::add_group;
 use crate::hide::hide;
+use crate::line_words::LineWords;
 use crate::reader::Reader;
 use crate::server::add_server;
 use crate::user::add_user;
@@ -64,82 +65,36 @@ fn read_statement<T: Tree, A: Allocator>(
     }
 }
 
-/// What the first word of a line asks for.
-#[derive(Clone, Copy)]
-enum Operation {
-    Server,
-    Dir,
-    File,
-    User,
-    Group,
-    Hide,
-    Set,
-}
-
 // Makes the change of a line of these words.
-fn read_line<T: Tree>(alloc: T::Alloc, world: &mut Reader<T>, words: &[&str]) -> Result<(), Stop>
+pub(crate) fn read_line<T: Tree>(
+    alloc: T::Alloc,
+    world: &mut Reader<T>,
+    words: &[&str],
+) -> Result<(), Stop>
     ensures { Makes (line_meaning (map (λ w. w.now) words.now) world.old) world.old world.new
         result }
 {
-    let [word, words @ ..] = words else {
-        return Err(Stop::Refused(LineFault::UnknownWord));
-    };
-    let operation = operation_of(word).ok_or(Stop::Refused(LineFault::UnknownWord))?;
-    operate(alloc, world, operation, words)
-}
-
-// The operation that a word names.
-fn operation_of(word: &str) -> Option<Operation>
-    ensures { result ≡ operation_of word.now }
-{
-    match word {
-        "server" => Some(Operation::Server),
-        "dir" => Some(Operation::Dir),
-        "file" => Some(Operation::File),
-        "user" => Some(Operation::User),
-        "group" => Some(Operation::Group),
-        "hide" => Some(Operation::Hide),
-        "set" => Some(Operation::Set),
-        _ => None,
+    match LineWords::read(words) {
+        Ok(line) => apply(alloc, world, line),
+        Err(fault) => Err(Stop::Refused(fault)),
     }
 }
 
-// Does an operation on the words that follow.
-fn operate<T: Tree>(
+// Makes the change of a line.
+fn apply<T: Tree>(
     alloc: T::Alloc,
     world: &mut Reader<T>,
-    operation: Operation,
-    words: &[&str],
+    line: LineWords<'_, '_>,
 ) -> Result<(), Stop>
-    ensures { Makes (operated operation (map (λ w. w.now) words.now) world.old) world.old world.new
-        result }
+    ensures { Makes (meant line.entry world.old) world.old world.new result }
 {
-    match (operation, words) {
-        (Operation::Server, [name]) => add_server(alloc, world, name),
-        (Operation::Dir, [path, mode, uid, gid]) => {
-            let words = NodeWords {
-                path,
-                mode,
-                uid,
-                gid,
-            };
-            add_dir(alloc, world, words)
-        }
-        (Operation::File, [path, mode, uid, gid, hex]) => {
-            let words = NodeWords {
-                path,
-                mode,
-                uid,
-                gid,
-            };
-            add_file(alloc, world, words, hex)
-        }
-        (Operation::User, [name]) => add_user(world, name),
-        (Operation::Group, [name, leader, members @ ..]) => {
-            add_group(alloc, world, name, leader, members)
-        }
-        (Operation::Hide, [server, path]) => hide(alloc, world, server, path),
-        (Operation::Set, [name, value]) => set_variable(alloc, world, name, value),
-        _ => Err(Stop::Refused(LineFault::WordCount)),
+    match line {
+        LineWords::Server(name) => add_server(alloc, world, name),
+        LineWords::Dir(node) => add_dir(alloc, world, node),
+        LineWords::File(node, hex) => add_file(alloc, world, node, hex),
+        LineWords::User(name) => add_user(world, name),
+        LineWords::Group(name, leader, members) => add_group(alloc, world, name, leader, members),
+        LineWords::Hide(server, path) => hide(alloc, world, server, path),
+        LineWords::Set(name, value) => set_variable(alloc, world, name, value),
     }
 }

@@ -1,9 +1,11 @@
 //! Lines `server NAME`.
 
-ghost use Rattle.std.specs.Prelude.{◌≡◌};
+ghost use Rattle.std.specs.Prelude.{◌≡◌, ◌<◌, Ok, false, is_some, length};
 ghost use Rattle.std.specs.List.{list_any};
+ghost use Rattle.p9_base.specs.NodeRef.{servers_max};
 ghost use Rattle.p9_world.specs.Meaning.{Makes};
-ghost use Rattle.p9_world.specs.Server.{is_reserved, is_server_name, server_line};
+ghost use Rattle.p9_world.specs.Server.{is_reserved, is_server_name, server_line, server_number};
+ghost use Rattle.p9_world.specs.Server.{with_server};
 
 use crate::error::{LineFault, Stop};
 use crate::last_dir::LastDir;
@@ -31,6 +33,19 @@ pub(crate) fn add_server<T: Tree>(
     if world.servers.len() >= SERVERS_MAX {
         return Err(Stop::Refused(LineFault::TooMany));
     }
+    push_server(alloc, world, name)
+}
+
+/// A server of this name, which no other has, joins after the others.
+pub(crate) fn push_server<T: Tree>(
+    alloc: T::Alloc,
+    world: &mut Reader<T>,
+    name: &str,
+) -> Result<(), Stop>
+    requires absent { is_some (server_number name.now world.old.servers) ≡ false }
+    requires room { length world.old.servers < servers_max }
+    ensures { Makes (Ok (with_server name.now world.old)) world.old world.new result }
+{
     let tree = T::with_root(alloc)?;
     let owned = String::from_str(alloc, name)?;
     world.trees.reserve(1)?;
