@@ -7,3 +7,14 @@ pub mod TextPositions
 pub mod LastDirs
 pub mod Readers
 mod Refused
+pub mod Fits
+pub mod Words
+pub mod Paths
+pub mod Modes
+pub mod Digits
+pub mod Puts
+pub mod Lines
+pub mod Loops
+pub mod Meanings
+pub mod Written
+pub mod WordFaults

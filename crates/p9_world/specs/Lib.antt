@@ -13,3 +13,8 @@ pub mod LastDir
 pub mod Positions
 pub mod Reader
 pub mod Read
+pub mod Word
+pub mod Unfit
+pub mod Text
+pub mod Change
+pub mod Laws
