@@ -7,8 +7,8 @@ use Rattle.p9_base.specs.declared.stop.Stop.{Stop}
 use Rattle.p9_base.specs.declared.stop.Stop.TheVariants.{Refused}
 use Rattle.p9_base.specs.Results.{and_then}
 use Rattle.p9_clean.specs.Path.{elements_of, is_rooted}
-use Rattle.p9_pack.specs.Unfit.{unfit_name}
-use Rattle.p9_pack.specs.declared.unfit.Unfit.{Unfit as UnfitFor}
+use Rattle.p9_world.specs.declared.unfit.Unfit.{Unfit as UnfitFor}
+use Rattle.p9_world.specs.Unfit.{unfit_name}
 use Rattle.p9_admin.specs.declared.hide.Hide.{Hide}
 use Rattle.p9_admin.specs.declared.hide.HideFault.{HideFault}
 use Rattle.p9_admin.specs.declared.hide.HideFault.TheVariants.{NoServer, Root, Unfit, UnknownServer}

@@ -3,8 +3,8 @@ use Rattle.std.specs.Prelude.{ℕ, List, Option, Some, None, Result, Ok, Err, co
 use Rattle.std.specs.Prelude.{if◌then◌else◌}
 use Rattle.p9_pack.specs.Account.{AccountRows}
 use Rattle.p9_pack.specs.Accounts.{group_name, has_user, user_name}
-use Rattle.p9_pack.specs.Unfit.{unfit_user}
-use Rattle.p9_pack.specs.declared.unfit.Unfit.{Unfit as UnfitFor}
+use Rattle.p9_world.specs.declared.unfit.Unfit.{Unfit as UnfitFor}
+use Rattle.p9_world.specs.Unfit.{unfit_user}
 use Rattle.p9_admin.specs.declared.reason.Reason.{Reason}
 use Rattle.p9_admin.specs.declared.reason.Reason.TheVariants.{NoGroup, NoUser, Unfit}
 

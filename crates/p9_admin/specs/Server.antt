@@ -2,8 +2,8 @@
 use Rattle.std.specs.Prelude.{ℕ, List, Option, Some, None, Result, Ok, Err, if◌then◌else◌}
 use Rattle.std.specs.List.{list_any}
 use Rattle.std.specs.Str.{bytes_eq}
-use Rattle.p9_pack.specs.Unfit.{unfit_server}
-use Rattle.p9_pack.specs.declared.unfit.Unfit.{Unfit as UnfitFor}
+use Rattle.p9_world.specs.declared.unfit.Unfit.{Unfit as UnfitFor}
+use Rattle.p9_world.specs.Unfit.{unfit_server}
 use Rattle.p9_admin.specs.declared.reason.Reason.{Reason}
 use Rattle.p9_admin.specs.declared.reason.Reason.TheVariants.{SameServer, Unfit}
 

@@ -2,8 +2,8 @@
 use Rattle.std.specs.Prelude.{ℕ, List, Option, Some, None, Result, Ok, Err}
 use Rattle.p9_base.specs.declared.stop.Stop.{Stop}
 use Rattle.p9_base.specs.declared.stop.Stop.TheVariants.{Refused}
-use Rattle.p9_pack.specs.Unfit.{unfit_user}
-use Rattle.p9_pack.specs.declared.unfit.Unfit.{Unfit}
+use Rattle.p9_world.specs.declared.unfit.Unfit.{Unfit}
+use Rattle.p9_world.specs.Unfit.{unfit_user}
 use Rattle.p9_admin.specs.declared.settings.BadOption.{BadOption}
 use Rattle.p9_admin.specs.declared.settings.Naming.{Naming}
 

@@ -3,13 +3,13 @@
 ghost use Rattle.std.specs.Prelude.{◌≡◌, ◌∷◌, ◌++◌, [], IfErr, IfOk, None, Ok, Some, find, map};
 ghost use Rattle.std.specs.String.{string_bytes};
 ghost use Rattle.p9_base.specs.declared.stop.Stop.TheVariants.{Refused};
-ghost use Rattle.p9_pack.specs.declared.unfit.Unfit.{Unfit as UnfitFor};
+ghost use Rattle.p9_world.specs.declared.unfit.Unfit.{Unfit as UnfitFor};
 ghost use Rattle.p9_admin.specs.Hide.{StopsFor, hidable, hide_asked, is_below, is_entered, is_hidden, is_named};
 ghost use Rattle.p9_admin.specs.Hide.{names_eq, only_server, place_view, unfit_names};
 
 use p9_base::{NoMemory, Stop};
 use p9_clean::elements;
-use p9_pack::{PlainName, ServerName, Unfit};
+use p9_world::{PlainName, ServerName, Unfit};
 use std::alloc::{AllocError, Global};
 use thiserror::Error;
 

@@ -11,13 +11,14 @@ use crate::rename::{Rename, is_taken, with_new_names};
 use crate::settings::{Settings, add_user};
 use p9_base::FileFlags;
 use p9_files::{Dir, Listing};
-use p9_pack::{
-    Accounts, DirLine, FileLine, PlainName, PlainUser, ServerName, fit_size, write_dir, write_file,
-    write_server,
-};
+use p9_pack::Accounts;
 use p9_shell::Failure;
 use p9_shown::AsShown;
 use p9_tree::FILE_MAX;
+use p9_world::{
+    DirLine, FileLine, PlainName, PlainUser, ServerName, fit_size, write_dir, write_file,
+    write_server,
+};
 use std::alloc::Global;
 use std::fs::{File, FileType, Metadata};
 use std::io::{self, Read};

@@ -4,7 +4,8 @@ ghost use Rattle.std.specs.Prelude.{◌≡◌, option_map};
 ghost use Rattle.p9_admin.specs.Owner.{group_of, leader_of, named, owner_of};
 
 use crate::reason::Reason;
-use p9_pack::{Accounts, PlainUser};
+use p9_pack::Accounts;
+use p9_world::PlainUser;
 use std::alloc::Global;
 
 /// The name of an owner: the one that is asked for, or else that of the first user of the number.

@@ -15,13 +15,12 @@ use crate::rename::{Rename, renames_in};
 use crate::settings::{Settings, settings_asked};
 use crate::source::{Source, hides_in, sources_in};
 use clap::ArgMatches;
-use p9_pack::{
-    Accounts, GroupLine, HideLine, PlainName, PlainUser, write_group, write_hide, write_user,
-};
+use p9_pack::Accounts;
 use p9_prepared::{Section, print_line};
 use p9_shell::Failure;
 use p9_shell::status::{DONE, REFUSED};
 use p9_shown::AsShown;
+use p9_world::{GroupLine, HideLine, PlainName, PlainUser, write_group, write_hide, write_user};
 use std::alloc::{AllocError, Global};
 
 /// Runs the command, and returns the exit status.

@@ -3,8 +3,8 @@
 use crate::node::{Entry, Level, Packing};
 use crate::reason::Reason;
 use crate::source::Source;
-use p9_pack::{PlainName, ServerName};
 use p9_shell::Failure;
+use p9_world::{PlainName, ServerName};
 use std::alloc::AllocError;
 
 /// Packs the directory of a source, with everything below it, as a server.

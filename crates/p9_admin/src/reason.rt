@@ -1,6 +1,6 @@
 //! Why something is left out or refused.
 
-use p9_pack::Unfit;
+use p9_world::Unfit;
 use std::io::{self, ErrorKind};
 use thiserror::Error;
 

@@ -6,8 +6,8 @@ ghost use Rattle.p9_admin.specs.Settings.{user_asked};
 use crate::PROGRAM;
 use clap::ArgMatches;
 use p9_base::{NoMemory, Stop};
-use p9_pack::{PlainUser, Unfit};
 use p9_shell::Failure;
+use p9_world::{PlainUser, Unfit};
 use std::alloc::Global;
 
 /// What the options ask for, beside the directories and the files of accounts.

@@ -5,7 +5,7 @@ use crate::present::{Present, read_present, report_stop};
 use crate::sink::write_text;
 use clap::ArgMatches;
 use p9_base::{NoMemory, NodeRef, Stop, lines, words};
-use p9_pack::{Unfit, UnfitNode, is_same_world, unfit_nodes, write_world};
+use p9_pack::{UnfitNode, is_same_world, unfit_nodes, write_world};
 use p9_prepared::{
     Bundle, BundleError, NameSpace, Needs, Section, path_of, prepare, print_line, split_bundle,
 };
@@ -14,7 +14,7 @@ use p9_shell::status::{DONE, REFUSED};
 use p9_shown::AsShown;
 use p9_space::Member;
 use p9_tree::Tree;
-use p9_world::World;
+use p9_world::{Unfit, World};
 use std::alloc::Global;
 
 /// Prints what is kept in a folder as an input without a certificate, or writes it into the file of the

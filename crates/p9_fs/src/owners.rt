@@ -6,7 +6,7 @@ use crate::remote::PERMISSIONS;
 use p9_base::{DMAPPEND, DMEXCL, DMTMP, FileFlags, NoMemory, Permissions};
 use p9_client::Entry;
 use p9_files::{NewFile, OUTPUT_MODE};
-use p9_pack::{
+use p9_world::{
     DirLine, FileLine, PlainName, PlainUser, ServerName, Unfit, fit_size, write_dir, write_file,
     write_server,
 };

@@ -1,12 +1,2 @@
-pub mod Fits
-pub mod Words
-pub mod Paths
-pub mod Modes
-pub mod Digits
-pub mod Puts
 pub mod Rows
-pub mod Lines
 pub mod Loops
-pub mod Meanings
-pub mod Written
-pub mod WordFaults

@@ -1,29 +1,13 @@
 -- What one step of a loop over a list adds to what was made of the items before.
-use Rattle.std.proofs.Common.{◌≡◌, ℕ, ◌+◌, ◌<◌, ◌≤◌, Bool, true, false, List, [], ◌∷◌, ◌++◌, Bor}
-use Rattle.std.proofs.Common.{length, drop, get_or, map, refl, sym, ap, ◌∙◌, append_assoc}
-use Rattle.std.specs.List.{flat_map, fold, list_any}
+use Rattle.std.proofs.Common.{◌≡◌, ℕ, ◌+◌, ◌<◌, Bool, true, false, List, [], ◌∷◌, ◌++◌, Bor, length, drop}
+use Rattle.std.proofs.Common.{get_or, map, refl, sym, ap, ◌∙◌}
+use Rattle.std.specs.List.{fold, list_any}
 use Rattle.std.specs.Str.{bytes_eq}
-use Rattle.std.proofs.lemmas.List.{append-nil, drop_all, drop_more, map-append}
+use Rattle.std.proofs.lemmas.List.{map-append}
+use Rattle.p9_world.proofs.Loops.{next-left}
 use Rattle.p9_pack.specs.Once.{with_text}
 
 module _ {X : Type 0} (items : List X) (i : ℕ) (x d : X) where
-  -- the item is the first of those that are left
-  next-left : i < length items → x ≡ get_or items i d → drop i items ≡ x ∷ drop (i + 1) items
-  next-left l at = drop_more items i d l ∙ ap (λ y. y ∷ drop (i + 1) items) (sym at)
-
-  -- what is made of the item is added
-  pub list-more : {Y : Type 0} (made_of : List X → List Y) (before part after whole : List Y)
-      → i < length items → x ≡ get_or items i d
-      → made_of (x ∷ drop (i + 1) items) ≡ part ++ made_of (drop (i + 1) items)
-      → after ≡ before ++ part → before ++ made_of (drop i items) ≡ whole
-      → after ++ made_of (drop (i + 1) items) ≡ whole
-  list-more made_of before part after whole l at one more kept =
-      ap (λ made. made ++ made_of (drop (i + 1) items)) more
-      ∙ append_assoc before part (made_of (drop (i + 1) items))
-      ∙ ap (λ made. before ++ made) (sym one)
-      ∙ ap (λ left. before ++ made_of left) (sym (next-left l at))
-      ∙ kept
-
   -- nothing is made of the item
   pub list-same : {Y : Type 0} (made_of : List X → List Y) (before after whole : List Y)
       → i < length items → x ≡ get_or items i d
@@ -33,16 +17,8 @@ module _ {X : Type 0} (items : List X) (i : ℕ) (x d : X) where
   list-same made_of before after whole l at none same kept =
       ap (λ made. made ++ made_of (drop (i + 1) items)) same
       ∙ ap (λ made. before ++ made) (sym none)
-      ∙ ap (λ left. before ++ made_of left) (sym (next-left l at))
+      ∙ ap (λ left. before ++ made_of left) (sym (next-left items i x d l at))
       ∙ kept
-
-  -- the text of the item is added
-  pub text-more : (text_of : X → List ℕ) (before after whole : List ℕ) → i < length items
-      → x ≡ get_or items i d → after ≡ before ++ text_of x
-      → before ++ flat_map text_of (drop i items) ≡ whole
-      → after ++ flat_map text_of (drop (i + 1) items) ≡ whole
-  text-more text_of before after whole l at more kept =
-      list-more (flat_map text_of) before (text_of x) after whole l at refl more kept
 
   -- the item joins what is folded
   pub fold-more : {Y Z : Type 0} (step : Z → Y → Z) (view : X → Y) (before after whole : Z)
@@ -51,22 +27,8 @@ module _ {X : Type 0} (items : List X) (i : ℕ) (x d : X) where
       → fold step after (map view (drop (i + 1) items)) ≡ whole
   fold-more step view before after whole l at more kept =
       ap (λ made. fold step made (map view (drop (i + 1) items))) more
-      ∙ ap (λ left. fold step before (map view left)) (sym (next-left l at))
+      ∙ ap (λ left. fold step before (map view left)) (sym (next-left items i x d l at))
       ∙ kept
-
--- the texts of all items are added
-pub text-all : {X : Type 0} (text_of : X → List ℕ) (items : List X) (i : ℕ) (text whole : List ℕ)
-    → length items ≤ i → text ++ flat_map text_of (drop i items) ≡ whole → text ≡ whole
-text-all text_of items i text whole l kept =
-    sym (append-nil text) ∙ ap (λ left. text ++ flat_map text_of left) (sym (drop_all i items l))
-    ∙ kept
-
--- a byte and a word are added
-pub word-more : (code : ℕ) (word put before half after : List ℕ) → half ≡ before ++ code ∷ []
-    → after ≡ half ++ put → put ≡ word → after ≡ before ++ code ∷ word
-word-more code word put before half after first second is =
-    second ∙ ap (λ text. text ++ put) first ∙ append_assoc before (code ∷ []) put
-    ∙ ap (λ text. before ++ code ∷ text) is
 
 -- a text that is not among those that were found joins them
 pub with_text-new : (found others pushed after : List (Bor (List ℕ))) (text : Bor (List ℕ))

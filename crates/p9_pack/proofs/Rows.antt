@@ -5,9 +5,10 @@ use Rattle.std.specs.List.{filter_map}
 use Rattle.std.specs.Option.{option_map}
 use Rattle.std.proofs.lemmas.Bool.{eq-eqb, ne_eqb}
 use Rattle.std.proofs.lemmas.List.{map-append}
+use Rattle.p9_world.proofs.Loops.{list-more}
 use Rattle.p9_pack.specs.declared.account.UserAccount.{UserAccount}
 use Rattle.p9_pack.specs.Account.{fields_of, user_row, users_of}
-use Rattle.p9_pack.proofs.Loops.{list-more, list-same}
+use Rattle.p9_pack.proofs.Loops.{list-same}
 
 -- texts as they are seen
 abbrev pub texts_view : List (Bor (List ℕ)) → List (List ℕ)

@@ -1,14 +1,11 @@
 //! The lines of a world as it is now, with all of its trees.
 
-use crate::line::{DirLine, FileLine, GroupLine, HideLine};
-use crate::name::PlainName;
-use crate::server_name::ServerName;
-use crate::unfit::Unfit;
-use crate::user::PlainUser;
-use crate::write::{write_dir, write_file, write_group, write_hide, write_server, write_user};
 use p9_base::{Group, Groups, Kind, NoMemory, NodeRef, Stop, User};
 use p9_tree::{Entry, Node, Tree};
-use p9_world::World;
+use p9_world::{
+    DirLine, FileLine, GroupLine, HideLine, PlainName, PlainUser, ServerName, Unfit, World,
+    write_dir, write_file, write_group, write_hide, write_server, write_user,
+};
 use std::alloc::Allocator;
 
 /// A file or directory that a world's text can't have, and why.

@@ -16,3 +16,8 @@ pub mod Read
 pub mod LineWords
 pub mod Faults
 pub mod NodeLine
+pub mod Word
+pub mod Unfit
+pub mod Text
+pub mod Change
+pub mod Laws

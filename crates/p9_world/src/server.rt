@@ -64,8 +64,8 @@ fn is_server_name(name: &str) -> bool
     1 <= name.len() && name.len() <= SERVER_NAME_MAX && !has_reserved(name)
 }
 
-// Whether one of `/`, `#`, `$` and NUL is among the bytes.
-fn has_reserved(name: &str) -> bool
+/// Whether one of `/`, `#`, `$` and NUL is among the bytes.
+pub(crate) fn has_reserved(name: &str) -> bool
     ensures { result ≡ list_any is_reserved name.now }
 {
     name.bytes()

@@ -1,8 +1,0 @@
-use Rattle.std.specs.Prelude.{codes}
-use Rattle.p9_pack.specs.Unfit.{unfit_user}
-use Rattle.p9_pack.proofs.Fits.{IsOk-fit, sys-fit}
-use Rattle.p9_pack.proofs.user.PlainUser.sys.Goals as goal
-
-pub unwrap-requires : goal.unwrap-requires
-unwrap-requires c =
-    IsOk-fit c.new.result (codes "sys") (unfit_user (codes "sys")) sys-fit c.new.ensures
