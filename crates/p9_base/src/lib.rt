@@ -26,7 +26,7 @@ pub use decimal::number;
 pub use fault::{FAULT_TEXT_MAX, Fault};
 pub use fid::NOFID;
 pub use group::{Group, Groups};
-pub use line::{is_skipped, lines, words};
+pub use line::{is_skipped, lines, whole_lines, words};
 pub use memory::NoMemory;
 pub use mode::{DMAPPEND, DMDIR, DMEXCL, DMTMP, FileFlags, Kind, Mode, Permissions, Rights};
 pub use name::{Name, valid_name};

@@ -7,7 +7,7 @@ ghost use Rattle.p9_client.specs.Reason.{ends};
 use crate::error::ClientError;
 use crate::replies::Replies;
 use crate::session::Session;
-use crate::stream::Stream;
+use p9_wire::Stream;
 use std::alloc::Allocator;
 
 /// The most reads or writes that are sent before the reply to the first of them is read.

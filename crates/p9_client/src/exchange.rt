@@ -7,10 +7,9 @@ ghost use Rattle.p9_wire.specs.Spelling.{t_len, t_spelling, TFits};
 ghost use Rattle.p9_client.specs.Frame.{HasSize, IsBadSize};
 ghost use Rattle.p9_client.specs.Transfer.{AppendsFront};
 
-use crate::stream::Stream;
 use crate::transfer::{receive_between, send_all};
 use byteorder::{ByteOrder, LittleEndian};
-use p9_wire::{HEADER, TMsg, write_t};
+use p9_wire::{HEADER, TMsg, write_t, Stream};
 use std::io;
 
 /// Writes a request with its tag. The front of the buffer has its bytes then. After an error the

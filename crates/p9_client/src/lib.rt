@@ -18,7 +18,6 @@ mod reason;
 mod replies;
 mod reply;
 mod session;
-mod stream;
 mod transfer;
 mod writing;
 
@@ -30,4 +29,4 @@ pub use listing::LISTING_MAX;
 pub use reason::{REASON_MAX, Reason};
 pub use reply::{MSIZE_MIN, Opened, VERSION};
 pub use session::Session;
-pub use stream::Stream;
+pub use p9_wire::Stream;

@@ -6,8 +6,8 @@ ghost use Rattle.p9_client.specs.Files.{GoesOn, ReadsWhole, spelled};
 use crate::entry::Entry;
 use crate::file_error::FileError;
 use crate::session::Session;
-use crate::stream::Stream;
 use byteorder::{ByteOrder, LittleEndian};
+use p9_wire::Stream;
 use std::alloc::Allocator;
 
 /// The most bytes of a directory's contents that are listed.

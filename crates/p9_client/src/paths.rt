@@ -5,8 +5,7 @@ ghost use Rattle.p9_client.specs.Files.{GoesOn, WalksPath, WalksPiece};
 
 use crate::file_error::FileError;
 use crate::session::Session;
-use crate::stream::Stream;
-use p9_wire::{MAXWELEM, Names};
+use p9_wire::{MAXWELEM, Names, Stream};
 use std::alloc::Allocator;
 
 impl<S: Stream + Drop, A: Allocator + Copy> Session<S, A> {

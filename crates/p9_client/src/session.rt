@@ -21,9 +21,8 @@ use crate::reply::{
     MSIZE_MIN, Opened, VERSION, agreed_msize, attached_qid, created_file, opened_file, read_into,
     take_clunk, take_remove, take_wstat, walked_qids, written_count,
 };
-use crate::stream::Stream;
 use p9_base::{NOFID, NoMemory, Qid};
-use p9_wire::{HEADER, IOHDRSZ, NOTAG, Names, Qids, Stat, TMsg};
+use p9_wire::{HEADER, IOHDRSZ, NOTAG, Names, Qids, Stat, TMsg, Stream};
 use std::alloc::Allocator;
 use std::marker::Model;
 

@@ -4,7 +4,7 @@ ghost use Rattle.std.specs.Prelude.{◌≡◌, ◌≤◌, OnErr, OnOk, drop, len
 ghost use Rattle.std.specs.Io.KnownBytes.{Appends, Consumes, Keeps};
 ghost use Rattle.p9_client.specs.Transfer.{AppendsFront};
 
-use crate::stream::Stream;
+use p9_wire::Stream;
 use std::io;
 use std::io::ErrorKind;
 
@@ -21,7 +21,7 @@ pub fn send_all<S: Stream>(stream: &mut S, bytes: &[u8]) -> io::Result<()>
         if sent == bytes.len() {
             return Ok(());
         }
-        match stream.send(&bytes[sent..]) {
+        match stream.send(&bytes[sent..], false) {
             Ok(0) => return Err(io::Error::from(ErrorKind::WriteZero)),
             Ok(count) => sent += count,
             Err(error) if error.kind() == ErrorKind::Interrupted => {}

@@ -11,8 +11,7 @@ use crate::file_error::FileError;
 use crate::replies::Replies;
 use crate::reply::{Asked, written_count};
 use crate::session::{Session, tag_after};
-use crate::stream::Stream;
-use p9_wire::TMsg;
+use p9_wire::{TMsg, Stream};
 use std::alloc::Allocator;
 
 impl<S: Stream + Drop, A: Allocator + Copy> Session<S, A> {

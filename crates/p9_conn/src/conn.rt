@@ -6,12 +6,11 @@ ghost use Rattle.p9_conn.specs.Turn.{Answering, Ending, Receiving, Sending, phas
 ghost use Rattle.p9_wire.specs.Frame.{first_frame};
 ghost use Rattle.p9_wire.specs.declared.frame.Frame.TheVariants.{Need, Whole};
 
-use crate::stream::Stream;
 use crate::window::Window;
 use p9_base::NoMemory;
 use p9_guard::Guard;
 use p9_tree::Tree;
-use p9_wire::Frame;
+use p9_wire::{Frame, Stream};
 use std::alloc::Allocator;
 use std::io;
 use std::io::ErrorKind;

@@ -9,8 +9,7 @@
 mod conn;
 pub mod laws;
 mod room;
-mod stream;
 mod window;
 
 pub use conn::{Conn, Turn};
-pub use stream::Stream;
+pub use p9_wire::Stream;

@@ -8,11 +8,10 @@ ghost use Rattle.p9_conn.specs.Device.{HasRead, HasWritten};
 ghost use Rattle.p9_wire.specs.Frame.{first_frame, is_frame, msize_max};
 
 use crate::room::{lengthen, with_room};
-use crate::stream::Stream;
 use p9_base::NoMemory;
 use p9_guard::Guard;
 use p9_tree::Tree;
-use p9_wire::{Frame, MSIZE_MAX, frame_of};
+use p9_wire::{Frame, MSIZE_MAX, frame_of, Stream};
 use std::alloc::Allocator;
 use std::io;
 use std::marker::Model;

@@ -3,8 +3,9 @@ use Rattle.std.specs.Prelude.{ℕ, ◌+◌, ◌==◌, List, length, take, drop, 
 use Rattle.std.specs.Prelude.{if◌then◌else◌}
 use Rattle.std.specs.List.{enumerate_from}
 use Rattle.std.specs.Str.{is_utf8}
+use Rattle.p9_base.specs.Line.{whole_lines}
 use Rattle.p9_base.specs.Results.{and_then, try_fold}
-use Rattle.p9_exchange.specs.Input.{whole_lines, lines_before, replies_head, script_lines}
+use Rattle.p9_exchange.specs.Input.{lines_before, replies_head, script_lines}
 use Rattle.p9_exchange.specs.Line.{line_at}
 use Rattle.p9_exchange.specs.Refusal.{or_refused}
 use Rattle.p9_exchange.specs.Talk.{Talk, nothing_said, with_said}

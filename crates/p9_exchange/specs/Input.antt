@@ -3,18 +3,6 @@ use Rattle.std.specs.Prelude.{ℕ, ◌+◌, ◌-◌, ◌==◌, ◌&&◌, Bool, n
 use Rattle.std.specs.Prelude.{drop, codes, if◌then◌else◌}
 use Rattle.std.specs.List.{prefix_len, slice_index_or}
 use Rattle.std.specs.Str.{bytes_eq}
-use Rattle.p9_base.specs.Line.{lines_of}
-
--- whether the last line is empty
-abbrev pub ends_empty : List (List ℕ) → Bool
-ends_empty lines =
-    nat_lt 0 (length lines) && length (slice_index_or lines (length lines - 1) []) == 0
-
--- the lines of a text: after a newline at its end there is none
-unfoldable pub whole_lines : List ℕ → List (List ℕ)
-whole_lines text =
-    let lines = lines_of text in
-    if ends_empty lines then take (length lines - 1) lines else lines
 
 -- how many lines are before the first one that is this head
 abbrev pub lines_before : List ℕ → List (List ℕ) → ℕ

@@ -3,11 +3,12 @@ use Rattle.std.specs.Prelude.{ℕ, List, [], ◌∷◌, ◌++◌, codes, Result,
 use Rattle.std.specs.List.{enumerate_from, flat_map}
 use Rattle.std.specs.Str.{is_utf8}
 use Rattle.std.specs.String.{string_bytes}
+use Rattle.p9_base.specs.Line.{whole_lines}
 use Rattle.hex.specs.Hex.{encode_lower}
 use Rattle.p9_base.specs.Results.{and_then, try_fold}
 use Rattle.p9_words.specs.Words.{number_words}
 use Rattle.p9_words.specs.declared.form.Base.TheVariants.{Decimal}
-use Rattle.p9_exchange.specs.Input.{whole_lines, head_lines, script_lines}
+use Rattle.p9_exchange.specs.Input.{head_lines, script_lines}
 use Rattle.p9_exchange.specs.Line.{Line, Skipped, Open, Message, Close, line_at, turn_behind}
 use Rattle.p9_exchange.specs.Refusal.{or_refused}
 use Rattle.p9_exchange.specs.declared.refusal.Refusal.{Refusal}

@@ -6,10 +6,11 @@ ghost use Rattle.p9_exchange.specs.Exchange.{exchange_of};
 ghost use Rattle.p9_exchange.specs.Refusal.{IsStop, Makes};
 ghost use Rattle.p9_exchange.specs.Talk.{talk_view};
 
-use crate::input::{REPLIES, SCRIPT, lines_before, split_behind, text_of, whole_lines};
+use crate::input::{REPLIES, SCRIPT, lines_before, split_behind, text_of};
 use crate::refusal::{Awaited, Refusal, Stop};
 use crate::script::read_line;
 use crate::talk::Talk;
+use p9_base::whole_lines;
 use std::alloc::Allocator;
 
 // The exchange goes on with the line of the script of this number.

@@ -3,9 +3,8 @@
 ghost use Rattle.std.specs.Prelude.{◌≡◌, ◌+◌, ◌≤◌, IfOk, IfNone, IfSome, length, map, take};
 ghost use Rattle.std.specs.Prelude.{drop, true, false};
 ghost use Rattle.std.specs.Str.{is_utf8};
-ghost use Rattle.p9_exchange.specs.Input.{ends_empty, whole_lines, lines_before};
+ghost use Rattle.p9_exchange.specs.Input.{lines_before};
 
-use p9_base::lines;
 use std::alloc::{AllocError, Allocator};
 
 /// The line that begins a script.
@@ -20,28 +19,6 @@ pub fn text_of(input: &[u8]) -> Option<&str>
     ensures none { IfNone result (is_utf8 input.now ≡ false) }
 {
     str::from_utf8(input).ok()
-}
-
-// Whether the last line is empty.
-fn ends_empty(lines: &[&str]) -> bool
-    ensures { result ≡ ends_empty (map (λ line. line.now) lines.now) }
-{
-    match lines {
-        [.., last] => last.is_empty(),
-        [] => false,
-    }
-}
-
-/// The lines of a text. After a newline at its end there is none.
-#[tactic(auto, unfolding(crate::specs::Input::whole_lines))]
-pub fn whole_lines<A: Allocator + Copy>(alloc: A, text: &str) -> Result<Vec<&str, A>, AllocError>
-    ensures { IfOk result (λ found. map (λ line. line.now) found.items ≡ whole_lines text.now) }
-{
-    let mut lines = lines(alloc, text)?;
-    if ends_empty(lines.as_slice()) {
-        lines.pop();
-    }
-    Ok(lines)
 }
 
 /// How many lines are before the first one that is this head.

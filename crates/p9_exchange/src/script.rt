@@ -3,16 +3,16 @@
 ghost use Rattle.std.specs.Prelude.{◌≡◌, ◌++◌, IfErr, IfOk, OnOk, Ok, map};
 ghost use Rattle.std.specs.List.{flat_map};
 ghost use Rattle.std.specs.String.{string_bytes};
-ghost use Rattle.p9_exchange.specs.Input.{whole_lines};
+ghost use Rattle.p9_base.specs.Line.{whole_lines};
 ghost use Rattle.p9_exchange.specs.Line.{line_view, line_at};
 ghost use Rattle.p9_exchange.specs.Refusal.{IsStop, Makes, or_refused};
 ghost use Rattle.p9_exchange.specs.Script.{ended, line_text, with_line, written_behind};
 ghost use Rattle.p9_exchange.specs.Script.{script_of_lines, script_of_words, writer_view};
 
-use crate::input::{SCRIPT, split_behind, text_of, whole_lines};
+use crate::input::{SCRIPT, split_behind, text_of};
 use crate::line::{Line, take_line};
 use crate::refusal::{Refusal, Stop};
-use p9_base::NoMemory;
+use p9_base::{NoMemory, whole_lines};
 use p9_words::ReadError;
 use std::alloc::{AllocError, Allocator};
 

@@ -218,7 +218,7 @@ impl Stream for Watched {
         self.read(bytes)
     }
 
-    fn send(&mut self, bytes: &[u8]) -> io::Result<usize> {
+    fn send(&mut self, bytes: &[u8], _more: bool) -> io::Result<usize> {
         self.write(bytes)
     }
 }

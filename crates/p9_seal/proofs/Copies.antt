@@ -5,7 +5,7 @@ use Rattle.std.proofs.Common.{sym, ap, ◌∙◌, arith, append_assoc, append-ni
 use Rattle.std.specs.List.{flat_map}
 use Rattle.std.proofs.lemmas.List.{get_or-map, length-map, drop_more, drop_all}
 use Rattle.p9_seal.specs.Text.{cert_head, ended, lines_after, lines_before, sealed_text}
-use Rattle.p9_seal.specs.Text.{whole_lines}
+use Rattle.p9_base.specs.Line.{whole_lines}
 
 module _ (items : List (Bor (List ℕ))) (i : ℕ) (out whole : List ℕ) where
   abbrev lines : List (List ℕ)

@@ -12,7 +12,8 @@ use Rattle.std.proofs.lemmas.List.{take_more, take_all}
 use Rattle.std.proofs.lemmas.List.Elements.{All-from_recursion}
 use Rattle.std.proofs.lemmas.List.Splits.{length-slice_split, slice_split_at}
 use Rattle.p9_base.specs.Line.{lines_of}
-use Rattle.p9_seal.specs.Text.{ended, ends_empty, whole_lines}
+use Rattle.p9_base.specs.Line.{ends_empty, whole_lines}
+use Rattle.p9_seal.specs.Text.{ended}
 
 -- Texts, cut at a newline.
 

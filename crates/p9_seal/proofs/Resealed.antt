@@ -11,8 +11,9 @@ use Rattle.p9_base.specs.Results.{and_then, try_fold}
 use Rattle.p9_prepared.specs.Bundle.{Reading, Texts, bundle_of, unread, with_numbered_line}
 use Rattle.p9_seal.specs.Sections.{HasCertificate, SameStatements, statements_in}
 use Rattle.p9_seal.specs.Text.{begins_certificate_or_script, begins_script, cert_head, ended}
-use Rattle.p9_seal.specs.Text.{ends_empty}
-use Rattle.p9_seal.specs.Text.{lines_after, lines_before, sealed_text, whole_lines}
+use Rattle.p9_base.specs.Line.{ends_empty}
+use Rattle.p9_base.specs.Line.{whole_lines}
+use Rattle.p9_seal.specs.Text.{lines_after, lines_before, sealed_text}
 use Rattle.p9_seal.proofs.Blanks.{before, blank-step, known-reads, last-reads}
 use Rattle.p9_seal.proofs.Pieces.{AreLines, drop-clean, lines_of-clean, lines_of-ended, take-clean}
 use Rattle.p9_seal.proofs.Pieces.{whole_lines-last}

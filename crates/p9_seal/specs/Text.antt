@@ -3,20 +3,9 @@ use Rattle.std.specs.Prelude.{ℕ, ◌-◌, ◌==◌, ◌&&◌, ◌||◌, Bool, 
 use Rattle.std.specs.Prelude.{length, take, drop, if◌then◌else◌}
 use Rattle.std.specs.List.{flat_map, prefix_len, slice_index_or}
 use Rattle.std.specs.Str.{bytes_eq}
-use Rattle.p9_base.specs.Line.{lines_of}
+use Rattle.p9_base.specs.Line.{whole_lines}
 use Rattle.p9_prepared.specs.Section.{head_of}
 use Rattle.p9_prepared.specs.declared.section.Section.TheVariants.{Cert, Script}
-
--- whether the last line is empty
-abbrev pub ends_empty : List (List ℕ) → Bool
-ends_empty lines =
-    nat_lt 0 (length lines) && length (slice_index_or lines (length lines - 1) []) == 0
-
--- the lines of a text: after a newline at its end there is none
-unfoldable pub whole_lines : List ℕ → List (List ℕ)
-whole_lines text =
-    let lines = lines_of text in
-    if ends_empty lines then take (length lines - 1) lines else lines
 
 -- a line with its newline
 abbrev pub ended : List ℕ → List ℕ

@@ -3,12 +3,12 @@
 ghost use Rattle.std.specs.Prelude.{◌≡◌, ◌≤◌, ◌++◌, IfOk, OnOk, length, map, not};
 ghost use Rattle.std.specs.List.{flat_map, prefix_len};
 ghost use Rattle.std.specs.String.{string_bytes};
-ghost use Rattle.p9_seal.specs.Text.{begins_certificate_or_script, begins_script, ended, ends_empty};
-ghost use Rattle.p9_seal.specs.Text.{lines_after, lines_before, sealed_text, whole_lines};
+ghost use Rattle.p9_seal.specs.Text.{begins_certificate_or_script, begins_script, ended, lines_after};
+ghost use Rattle.p9_seal.specs.Text.{lines_before, sealed_text};
 
-use p9_base::{NoMemory, lines};
+use p9_base::{NoMemory, whole_lines};
 use p9_prepared::Section;
-use std::alloc::{AllocError, Allocator};
+use std::alloc::Allocator;
 
 /// The input with this text as the section of its certificate. One that is there is replaced, and
 /// else the section goes before that of the script, or to the end. All other lines are as they were,
@@ -30,28 +30,6 @@ pub(crate) fn with_certificate<A: Allocator + Copy>(
     text.push_str(certificate)?;
     push_lines(lines_after(lines), &mut text)?;
     Ok(text)
-}
-
-// Whether the last line is empty.
-fn ends_empty(lines: &[&str]) -> bool
-    ensures { result ≡ ends_empty (map (λ line. line.now) lines.now) }
-{
-    match lines {
-        [.., last] => last.is_empty(),
-        [] => false,
-    }
-}
-
-// The lines of a text. After a newline at its end there is none.
-#[tactic(auto, unfolding(crate::specs::Text::whole_lines))]
-fn whole_lines<A: Allocator + Copy>(alloc: A, text: &str) -> Result<Vec<&str, A>, AllocError>
-    ensures { IfOk result (λ found. map (λ line. line.now) found.items ≡ whole_lines text.now) }
-{
-    let mut lines = lines(alloc, text)?;
-    if ends_empty(lines.as_slice()) {
-        lines.pop();
-    }
-    Ok(lines)
 }
 
 // Whether the line begins a script.

@@ -3,7 +3,8 @@
 //! A frame is `size[4] type[1] tag[2]` and a body, as intro(5) lays it out. The codec is exact in
 //! both directions: a message with a tag has one spelling, which the writers put at the front of
 //! the caller's buffer, and the readers return a message exactly where some message has these
-//! bytes. Nothing here allocates: texts and data are slices of the frame.
+//! bytes. Nothing here allocates: texts and data are slices of the frame. A [`Stream`] is what frames
+//! go over, both ways.
 #![tactic(auto)]
 
 mod constants;
@@ -17,6 +18,7 @@ pub mod put;
 mod qids;
 mod r_reading;
 mod r_writing;
+mod stream;
 mod t_reading;
 mod t_writing;
 
@@ -28,5 +30,6 @@ pub use put::write_stat;
 pub use qids::Qids;
 pub use r_reading::read_r;
 pub use r_writing::{finish_read, write_r};
+pub use stream::Stream;
 pub use t_reading::read_t;
 pub use t_writing::write_t;

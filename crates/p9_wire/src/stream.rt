@@ -1,10 +1,11 @@
-//! The stream of a connection.
+//! A stream that frames go over.
 
 ghost use Rattle.std.specs.Io.{ReadsAtMost, WritesAtMost};
 ghost use Rattle.std.specs.Io.KnownBytes.{Keeps, ReadConsumes, WriteAppends};
 
 use std::io;
 use std::io::{Read, Write};
+use std::net::TcpStream;
 
 /// A stream of two directions, each of which leaves the other as it is: a read changes nothing of
 /// what was written, and a write nothing of what is left to read.
@@ -25,4 +26,14 @@ pub trait Stream: Read + Write {
         ensures written { WriteAppends (Self.contents self.old) (Self.contents self.new) result
             bytes.now }
         ensures left { Keeps (Self.remaining self.old) (Self.remaining self.new) };
+}
+
+impl Stream for TcpStream {
+    fn receive(&mut self, bytes: &mut [u8]) -> io::Result<usize> {
+        self.read(bytes)
+    }
+
+    fn send(&mut self, bytes: &[u8], _more: bool) -> io::Result<usize> {
+        self.write(bytes)
+    }
 }

@@ -100,7 +100,7 @@ impl<S: Server> Stream for Answered<S> {
         self.read(bytes)
     }
 
-    fn send(&mut self, bytes: &[u8]) -> io::Result<usize> {
+    fn send(&mut self, bytes: &[u8], _more: bool) -> io::Result<usize> {
         self.write(bytes)
     }
 }
