@@ -2,7 +2,6 @@ pub mod Walks
 pub mod Pieces
 pub mod Joins
 pub mod Parts
-pub mod Numbers
 pub mod Verdicts
 pub mod Refusals
 pub mod Walkers

@@ -6,4 +6,3 @@ pub mod Walker
 pub mod Told
 pub mod Change
 pub mod Explained
-pub mod NodeLines

@@ -18,7 +18,7 @@ use crate::free::push_free;
 use crate::hints::{push_hints, push_unneeded_rows};
 use crate::leaks::other_leaks;
 use crate::member::hidden_dir;
-use crate::source::Source;
+use crate::source::{Source, numbered_source};
 use crate::teller::{Teller, push};
 use p9_base::{NoMemory, NodeRef};
 use p9_cert::{Certificate, Gap};
@@ -117,7 +117,7 @@ fn told_of<T: Tree>(
 ) -> Result<Told<T::Alloc>, NoMemory>
     ensures { IfOk result (λ told. IsVerdictTold prepared told.status (string_bytes told.text)) }
 {
-    let source = Source::of(alloc, name, str::from_utf8(input).unwrap_or(""))?;
+    let source = numbered_source::<T>(alloc, name, str::from_utf8(input).unwrap_or(""))?;
     let mut told = tell(alloc, &source, &prepared)?;
     let rest = rest_of(alloc, &source, prepared, told.leak)?;
     told.text.push_str(rest.as_str())?;

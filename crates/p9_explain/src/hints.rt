@@ -10,7 +10,7 @@ use p9_prepared::Section;
 use p9_shown::AsShown;
 use p9_space::{MountTable, ROOT_PLACE, Who};
 use p9_tree::Tree;
-use p9_world::World;
+use p9_world::{LineWords, World};
 use std::alloc::Allocator;
 
 /// Adds the hints on an input to a text, each with its line. `reports` are the operations of its
@@ -115,8 +115,8 @@ fn push_idle_users<T: Tree>(
 
 // The user whom a line lists.
 fn user_in(words: &[&str]) -> Option<User> {
-    match words {
-        ["user", name] => User::new(name),
+    match LineWords::read(words) {
+        Ok(LineWords::User(name)) => User::new(name),
         _ => None,
     }
 }

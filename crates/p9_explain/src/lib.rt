@@ -2,16 +2,13 @@
 //! an input with faults all bad lines, each with what was expected there.
 #![tactic(auto, unfolding(p9_base::specs::Results::need))]
 
-mod above;
 mod bound;
 mod breach;
 mod certificate;
 mod change;
 mod claim;
 mod column;
-mod draft;
 mod explained;
-mod fault;
 mod faults;
 mod free;
 mod head;
@@ -19,7 +16,6 @@ mod hints;
 mod layout;
 mod leaks;
 mod member;
-mod node_lines;
 mod passing;
 mod right;
 mod source;

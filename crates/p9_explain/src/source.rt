@@ -1,10 +1,11 @@
 //! The input that is explained: its name, its lines, and which of them make nodes.
 
 use crate::layout::{Line, layout_of};
-use crate::node_lines::{NodeLine, line_of, node_lines};
 use p9_base::{NoMemory, NodeRef, Statement, statements};
 use p9_prepared::Section;
 use p9_shown::AsShown;
+use p9_tree::Tree;
+use p9_world::{NodeLine, node_lines};
 use std::alloc::Allocator;
 
 /// An input, by its name.
@@ -17,17 +18,14 @@ pub(crate) struct Source<'a, A: Allocator> {
 }
 
 impl<'a, A: Allocator + Copy> Source<'a, A> {
-    /// The source of an input, which has this name.
+    /// The source of an input, which has this name. No line of it is known to make a node.
     pub fn of(alloc: A, name: &'a str, input: &'a str) -> Result<Source<'a, A>, NoMemory> {
-        let mut source = Source {
+        Ok(Source {
             name: AsShown(name),
             input,
             lines: layout_of(alloc, input)?,
             nodes: Vec::new(alloc),
-        };
-        let world = source.statements(alloc, Section::World)?;
-        source.nodes = node_lines(alloc, world.as_slice())?;
-        Ok(source)
+        })
     }
 
     /// The text of a section, if the section is begun. It is empty where no line follows. The line
@@ -65,10 +63,28 @@ impl<'a, A: Allocator + Copy> Source<'a, A> {
         number.saturating_sub(number_in(self.lines.as_slice(), section, 0))
     }
 
-    /// The line of the world that made a node.
+    /// The last line of the world that made a node or changed it, if these lines are known.
     pub fn line_of(&self, at: NodeRef) -> Option<u64> {
-        line_of(self.nodes.as_slice(), at)
+        let mut found = None;
+        for made in self.nodes.as_slice() {
+            if made.at == at {
+                found = Some(made.line);
+            }
+        }
+        found
     }
+}
+
+/// The source of an input, which has this name, with the lines of its world that make nodes.
+pub(crate) fn numbered_source<'a, T: Tree>(
+    alloc: T::Alloc,
+    name: &'a str,
+    input: &'a str,
+) -> Result<Source<'a, T::Alloc>, NoMemory> {
+    let mut source = Source::of(alloc, name, input)?;
+    let world = source.text(Section::World).unwrap_or("");
+    source.nodes = node_lines::<T>(alloc, world)?;
+    Ok(source)
 }
 
 // The number of a section's line among all lines. The line 0 is the one that begins the section.

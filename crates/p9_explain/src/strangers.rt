@@ -6,7 +6,7 @@ use crate::teller::Teller;
 use p9_base::{NoMemory, NodeRef, Statement, User};
 use p9_prepared::Section;
 use p9_tree::Tree;
-use p9_world::World;
+use p9_world::{LineWords, World};
 use std::alloc::{AllocError, Allocator};
 use std::collections::BTreeSet;
 
@@ -33,24 +33,33 @@ pub(crate) fn push_strangers<T: Tree>(
     let alloc = *text.allocator();
     let mut known = known_in(alloc, teller.world)?;
     for statement in statements {
-        let words = statement.words.as_slice();
-        let kept = usize::from(is_of(words, &known.groups));
         let at = (Section::World, statement.line);
-        push_names(text, teller, at, names_of(words), kept, &mut known.users)?;
+        match LineWords::read(statement.words.as_slice()) {
+            Ok(LineWords::Dir(node)) => push_names(text, teller, at, &[node.uid], &mut known.users)?,
+            Ok(LineWords::File(node, _)) => {
+                push_names(text, teller, at, &[node.uid], &mut known.users)?;
+            }
+            Ok(LineWords::Group(name, leader, members)) => {
+                if !is_one_of(name, &known.groups) {
+                    push_names(text, teller, at, &[leader], &mut known.users)?;
+                }
+                push_names(text, teller, at, members, &mut known.users)?;
+            }
+            _ => {}
+        }
     }
     Ok(())
 }
 
-// Adds the names of a line that are not known, which are known then. So many of them are passed over.
+// Adds the names of a line that are not known, which are known then.
 fn push_names<T: Tree>(
     text: &mut String<T::Alloc>,
     teller: &Teller<'_, '_, T>,
     at: (Section, u64),
     names: &[&str],
-    kept: usize,
     known: &mut BTreeSet<User, T::Alloc>,
 ) -> Result<(), NoMemory> {
-    for name in names.iter().skip(kept) {
+    for name in names {
         let Some(user) = User::new(name) else {
             continue;
         };
@@ -61,20 +70,8 @@ fn push_names<T: Tree>(
     Ok(())
 }
 
-// The names in a line that are to be those of users: an owner, or a leader and members.
-fn names_of<'a, 'b>(words: &'b [&'a str]) -> &'b [&'a str] {
-    match words {
-        ["dir" | "file", _, _, _, ..] => &words[3..4],
-        ["group", _, names @ ..] => names,
-        _ => &[],
-    }
-}
-
-// Whether a line is that of one of these groups, whose leader is not to be listed.
-fn is_of<A: Allocator>(words: &[&str], groups: &BTreeSet<User, A>) -> bool {
-    let ["group", name, ..] = words else {
-        return false;
-    };
+// Whether a name is that of one of these groups.
+fn is_one_of<A: Allocator>(name: &str, groups: &BTreeSet<User, A>) -> bool {
     match User::new(name) {
         Some(group) => groups.contains(&group),
         None => false,

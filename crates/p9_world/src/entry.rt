@@ -134,7 +134,22 @@ fn add_file_to<T: Tree>(
     let Some((uid, gid)) = owners(words.uid, words.gid) else {
         return Err(Stop::Refused(LineFault::BadUser));
     };
-    add_file_of(alloc, tree, last_dir, name, names, mode, uid, gid, hex)
+    let file = FileWords {
+        mode,
+        uid,
+        gid,
+        hex,
+    };
+    add_file_of(alloc, tree, last_dir, name, names, &file)
+}
+
+// What a line says of a file: its mode, owner and group, and the word that writes its bytes.
+#[derive(Clone, Copy)]
+struct FileWords<'a> {
+    mode: Mode,
+    uid: User,
+    gid: User,
+    hex: &'a str,
 }
 
 // A file joins the tree, of this name in the directory that the names lead to, with the bytes that a
@@ -145,28 +160,25 @@ fn add_file_of<T: Tree>(
     last_dir: &mut LastDir<T::Alloc>,
     name: Name,
     names: Vec<Name, T::Alloc>,
-    mode: Mode,
-    uid: User,
-    gid: User,
-    hex: &str,
+    file: &FileWords<'_>,
 ) -> Result<(), Stop>
     requires led { IsWhereNamesLead last_dir.old (T.state tree.old) }
-    requires file { is_dir mode ≡ false }
-    ensures made { Makes (with_bytes name names.items mode uid gid hex.now (T.state tree.old))
-        (T.state tree.old) (T.state tree.new) result }
+    requires file { is_dir file.now.mode ≡ false }
+    ensures made { Makes (with_bytes name names.items file.now.mode file.now.uid file.now.gid
+        file.now.hex.now (T.state tree.old)) (T.state tree.old) (T.state tree.new) result }
     ensures next { (T.state tree.old).next ≤ (T.state tree.new).next }
     ensures led { IsWhereNamesLead last_dir.new (T.state tree.new) }
 {
-    let Some(bytes) = bytes_in(alloc, hex)? else {
+    let Some(bytes) = bytes_in(alloc, file.hex)? else {
         return Err(Stop::Refused(LineFault::BadHex));
     };
     if bytes.len() > FILE_MAX {
         return Err(Stop::Refused(LineFault::TooLarge));
     }
     let entry = NodeLine {
-        mode,
-        uid,
-        gid,
+        mode: file.mode,
+        uid: file.uid,
+        gid: file.gid,
         bytes: bytes.as_slice(),
     };
     add_entry(tree, last_dir, name, names, &entry)
