@@ -9,7 +9,7 @@ ghost use Rattle.p9_client.specs.Transfer.{AppendsFront};
 
 use crate::transfer::{receive_between, send_all};
 use byteorder::{ByteOrder, LittleEndian};
-use p9_wire::{HEADER, TMsg, write_t, Stream};
+use p9_wire::{HEADER, Stream, TMsg, write_t};
 use std::io;
 
 /// Writes a request with its tag. The front of the buffer has its bytes then. After an error the

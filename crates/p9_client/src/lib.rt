@@ -26,7 +26,7 @@ pub use entry::Entry;
 pub use error::ClientError;
 pub use file_error::FileError;
 pub use listing::LISTING_MAX;
+pub use p9_wire::Stream;
 pub use reason::{REASON_MAX, Reason};
 pub use reply::{MSIZE_MIN, Opened, VERSION};
 pub use session::Session;
-pub use p9_wire::Stream;

@@ -12,7 +12,7 @@ use crate::file_error::FileError;
 use crate::replies::Replies;
 use crate::reply::{Asked, read_bytes};
 use crate::session::{Session, tag_after};
-use p9_wire::{TMsg, Stream};
+use p9_wire::{Stream, TMsg};
 use std::alloc::Allocator;
 use std::io;
 use std::io::{ErrorKind, Write};

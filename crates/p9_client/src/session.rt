@@ -22,7 +22,7 @@ use crate::reply::{
     take_clunk, take_remove, take_wstat, walked_qids, written_count,
 };
 use p9_base::{NOFID, NoMemory, Qid};
-use p9_wire::{HEADER, IOHDRSZ, NOTAG, Names, Qids, Stat, TMsg, Stream};
+use p9_wire::{HEADER, IOHDRSZ, NOTAG, Names, Qids, Stat, Stream, TMsg};
 use std::alloc::Allocator;
 use std::marker::Model;
 

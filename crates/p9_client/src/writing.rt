@@ -11,7 +11,7 @@ use crate::file_error::FileError;
 use crate::replies::Replies;
 use crate::reply::{Asked, written_count};
 use crate::session::{Session, tag_after};
-use p9_wire::{TMsg, Stream};
+use p9_wire::{Stream, TMsg};
 use std::alloc::Allocator;
 
 impl<S: Stream + Drop, A: Allocator + Copy> Session<S, A> {

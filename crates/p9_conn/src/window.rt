@@ -11,7 +11,7 @@ use crate::room::{lengthen, with_room};
 use p9_base::NoMemory;
 use p9_guard::Guard;
 use p9_tree::Tree;
-use p9_wire::{Frame, MSIZE_MAX, frame_of, Stream};
+use p9_wire::{Frame, MSIZE_MAX, Stream, frame_of};
 use std::alloc::Allocator;
 use std::io;
 use std::marker::Model;

@@ -8,7 +8,7 @@ use crate::breach::MEND_DIRECTORY;
 use crate::free::first_line;
 use crate::member::dir_of;
 use crate::right::{Alteration, TO_USE, altering_class, class_of};
-use crate::source::Source;
+use crate::source::{Source, numbered_source};
 use crate::teller::{Teller, push, shown_path};
 use p9_base::{NoMemory, NodeRef, User};
 use p9_fixed::{Change, ChangeKind, changer};
@@ -34,7 +34,8 @@ pub fn explain_change<T: Tree>(
     ensures no_memory { OnErr result (out.new.items ≡ out.old.items) }
 {
     let alloc = *out.allocator();
-    let source = Source::of(alloc, name, str::from_utf8(input).unwrap_or(""))?;
+    let input = str::from_utf8(input).unwrap_or("");
+    let source = numbered_source::<T>(alloc, name, input)?;
     let text = mended_words::<T>(alloc, &source, change)?;
     out.extend_from_slice(text.as_bytes())?;
     Ok(())

@@ -35,7 +35,13 @@ pub(crate) fn push_strangers<T: Tree>(
     for statement in statements {
         let at = (Section::World, statement.line);
         match LineWords::read(statement.words.as_slice()) {
-            Ok(LineWords::Dir(node)) => push_names(text, teller, at, &[node.uid], &mut known.users)?,
+            Ok(LineWords::Dir(node)) => push_names(
+                text,
+                teller,
+                at,
+                &[node.uid],
+                &mut known.users,
+            )?,
             Ok(LineWords::File(node, _)) => {
                 push_names(text, teller, at, &[node.uid], &mut known.users)?;
             }
