@@ -1,12 +1,13 @@
 -- The bad lines of a text that is read on.
 use Rattle.std.proofs.Common.{◌≡◌, ℕ, ◌<◌, ◌≤◌, List, [], ◌∷◌, ◌++◌, Result, Err, drop, length, map}
-use Rattle.std.proofs.Common.{refl, sym, ◌∙◌}
+use Rattle.std.proofs.Common.{option_map, refl, slice_get, sym, ◌∙◌}
+use Rattle.std.specs.Result.{result_err}
 use Rattle.p9_base.specs.Results.{try_fold}
 use Rattle.p9_base.specs.Statement.{statements_of}
 use Rattle.p9_world.specs.declared.error.LineFault.{LineFault}
 use Rattle.p9_world.specs.declared.error.LineFault.TheVariants.{NoServer}
 use Rattle.p9_world.specs.declared.faults.BadLine.{BadLine}
-use Rattle.p9_world.specs.Faults.{fault_of, fault_view, first_of}
+use Rattle.p9_world.specs.Faults.{fault_view}
 use Rattle.p9_world.specs.Read.{read_statement, world_of}
 use Rattle.p9_world.specs.World.{World, empty_world}
 use Rattle.p9_world.proofs.Readings.{world_of-err, world_of-none, world_of-ok}
@@ -40,14 +41,14 @@ module _ {X : Type 0} (view : X → ℕ × List (List ℕ)) (items : List X) (te
 
   -- they make a world with a server
   pub first-with_server : (found : List BadLine) → Kept found → 0 < length w.servers
-      → first_of found ≡ fault_of (world_of text)
+      → option_map fault_view (slice_get found 0) ≡ result_err (world_of text)
   first-with_server [] kept some = rw (world_of-ok view items text same w i all kept some) refl
   first-with_server (bad ∷ bads) kept some = rw (world_of-err text (fault_view bad) kept) refl
 
   -- they make no server
   pub first-with_none : (found : List BadLine) (none : BadLine) → Kept found
       → length w.servers ≡ 0 → fault_view none ≡ (0, NoServer)
-      → first_of (found ++ none ∷ []) ≡ fault_of (world_of text)
+      → option_map fault_view (slice_get (found ++ none ∷ []) 0) ≡ result_err (world_of text)
   first-with_none [] none kept empty is =
       rw (world_of-none view items text same w i all kept empty, is) refl
   first-with_none (bad ∷ bads) none kept empty is =

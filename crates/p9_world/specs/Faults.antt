@@ -1,5 +1,5 @@
 -- The bad lines of a world's text.
-use Rattle.std.specs.Prelude.{◌≡◌, ℕ, List, [], ◌∷◌, Option, Some, None, Result, Ok, Err}
+use Rattle.std.specs.Prelude.{◌≡◌, ℕ, Option, Some, None, Result, Ok, Err}
 use Rattle.p9_world.specs.declared.error.LineFault.{LineFault}
 use Rattle.p9_world.specs.declared.faults.BadLine.{BadLine}
 use Rattle.p9_world.specs.World.{World}
@@ -7,16 +7,6 @@ use Rattle.p9_world.specs.World.{World}
 -- a bad line, as its number and what is wrong there
 abbrev pub fault_view : BadLine → ℕ × LineFault
 fault_view bad = (bad.line, bad.kind)
-
--- the first of some bad lines
-abbrev pub first_of : List BadLine → Option (ℕ × LineFault)
-first_of [] = None
-first_of (bad ∷ bads) = Some (fault_view bad)
-
--- the fault for which a text is refused, if it is
-abbrev pub fault_of : Result World (ℕ × LineFault) → Option (ℕ × LineFault)
-fault_of (Ok world) = None
-fault_of (Err fault) = Some fault
 
 -- what comes of reading on: the statement's change, or what is wrong with it, and then any world
 abbrev pub IsReadOn : Result World (ℕ × LineFault) → World → Option BadLine → Type 0

@@ -1,8 +1,9 @@
 //! All bad lines of a world's text.
 
-ghost use Rattle.std.specs.Prelude.{◌≡◌, IfOk};
+ghost use Rattle.std.specs.Prelude.{◌≡◌, IfOk, option_map, slice_get};
+ghost use Rattle.std.specs.Result.{result_err};
 ghost use Rattle.p9_base.specs.Statement.{statement_view};
-ghost use Rattle.p9_world.specs.Faults.{IsReadOn, fault_of, first_of};
+ghost use Rattle.p9_world.specs.Faults.{IsReadOn, fault_view};
 ghost use Rattle.p9_world.specs.Read.{read_statement, world_of};
 
 use crate::blame::blamed;
@@ -35,7 +36,8 @@ pub struct BadLine {
 ///
 /// The only error is a failed allocation.
 pub fn bad_lines<T: Tree>(alloc: T::Alloc, text: &str) -> Result<Vec<BadLine, T::Alloc>, NoMemory>
-    ensures { IfOk result (λ found. first_of found.items ≡ fault_of (world_of text.now)) }
+    ensures { IfOk result (λ found.
+        option_map fault_view (slice_get found.items 0) ≡ result_err (world_of text.now)) }
 {
     let mut world: Reader<T> = Reader::new(alloc);
     let mut found = Vec::new(alloc);
