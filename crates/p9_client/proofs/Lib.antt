@@ -5,6 +5,5 @@ pub mod Parts
 pub mod ReadAhead
 pub mod ReadPieces
 pub mod Sizes
-pub mod Stats
 pub mod WalkPieces
 pub mod WriteAhead

@@ -1,12 +1,8 @@
 -- What a server reports of a file, and the stats of a directory's contents.
 use Rattle.std.specs.Prelude.{◌≡◌, ℕ, List, Option, None, Some}
 use Rattle.std.specs.String.{string_bytes}
-use Rattle.p9_wire.specs.Fields.{FitsStat, StatNumbersFit, stat_bytes, text}
-use Rattle.p9_wire.specs.Message.{RMessage, Rstat, StatFields, stat_view}
-use Rattle.p9_wire.specs.Reading.{r_message_of}
-use Rattle.p9_wire.specs.Reply.{frame}
-use Rattle.p9_wire.specs.Spelling.{RSpells}
-use Rattle.p9_wire.specs.declared.message.Stat.{Stat}
+use Rattle.p9_wire.specs.Fields.{FitsStat, StatNumbersFit, stat_bytes}
+use Rattle.p9_wire.specs.Message.{RMessage, Rstat, StatFields}
 use Rattle.p9_client.specs.declared.entry.Entry.{Entry}
 
 -- the stat that an entry is
@@ -37,9 +33,3 @@ stat_frame bytes = frame 125 0 (text bytes)
 abbrev pub IsEntryOf : {A : Type 0} → List ℕ → Option (Entry A) → Type 0
 IsEntryOf bytes None = (s : StatFields) → StatNumbersFit s → FitsStat s → stat_bytes s ≡ bytes → ⊥
 IsEntryOf bytes (Some entry) = stat_bytes (entry_view entry) ≡ bytes
-
--- a frame spells a reply with this stat, or no stat is read of it
-abbrev pub IsStatOf : List ℕ → Option Stat → Type 0
-IsStatOf frame None = (tag : ℕ) (s : StatFields) → r_message_of frame ≡ Some (tag, Rstat s) → ⊥
-IsStatOf frame (Some stat) =
-    (tag : ℕ) × RSpells frame tag (Rstat (stat_view stat))

@@ -1,19 +1,15 @@
 //! What a server reports of a file, with texts of its own.
 
-ghost use Rattle.std.specs.Prelude.{◌≡◌, ◌<◌, ◌^◌, IfOk, length};
+ghost use Rattle.std.specs.Prelude.{◌≡◌, IfOk};
 ghost use Rattle.p9_wire.specs.Message.{stat_view};
-ghost use Rattle.p9_client.specs.Entry.{IsEntryOf, IsStat, IsStatOf, entry_view, stat_frame};
+ghost use Rattle.p9_client.specs.Entry.{IsEntryOf, IsStat, entry_view};
 ghost use Rattle.p9_client.specs.Reply.{gives_no_more, IsTaken};
 
 use crate::error::ClientError;
 use crate::reply::reply_of;
-use byteorder::{ByteOrder, LittleEndian};
 use p9_base::{DMDIR, NoMemory, Qid};
-use p9_wire::{HEADER, RMsg, Stat, read_r};
+use p9_wire::{RMsg, Stat, read_stat};
 use std::alloc::Allocator;
-
-// The type of a reply to a stat.
-const RSTAT: u8 = 125;
 
 /// What a server reports of a file, as stat(5): the fields of [`Stat`], with texts of its own.
 #[derive(Drop)]
@@ -54,11 +50,9 @@ impl<A: Allocator + Copy> Entry<A> {
     /// The entry of the stat that these bytes are, its size among them, or `None` where they are no
     /// stat.
     pub fn from_bytes(alloc: A, bytes: &[u8]) -> Result<Option<Entry<A>>, NoMemory>
-        requires { length bytes.now < 2 ^ 16 }
         ensures { IfOk result (IsEntryOf bytes.now) }
     {
-        let frame = framed(alloc, bytes)?;
-        match stat_of(frame.as_slice()) {
+        match read_stat(bytes) {
             Some(stat) => Ok(Some(Entry::new(alloc, &stat)?)),
             None => Ok(None),
         }
@@ -85,33 +79,4 @@ pub fn stat_entry<A: Allocator + Copy>(
         },
         _ => Err(ClientError::OtherType),
     }
-}
-
-// The stat of a frame that is a reply to a stat.
-fn stat_of(frame: &[u8]) -> Option<Stat<'_>>
-    ensures { IsStatOf frame.now result }
-{
-    match read_r(frame) {
-        Some((_, RMsg::Stat { stat })) => Some(stat),
-        _ => None,
-    }
-}
-
-// The frame of a reply to a stat, with these bytes as the stat.
-#[tactic(auto, unfolding(p9_wire::specs::Fields::number))]
-fn framed<A: Allocator + Copy>(alloc: A, bytes: &[u8]) -> Result<Vec<u8, A>, NoMemory>
-    requires { length bytes.now < 2 ^ 16 }
-    ensures { IfOk result (λ framed. framed.items ≡ stat_frame bytes.now) }
-{
-    let mut size = [0; 4];
-    LittleEndian::write_u32(&mut size, (HEADER + 2 + bytes.len()) as u32);
-    let mut len = [0; 2];
-    LittleEndian::write_u16(&mut len, bytes.len() as u16);
-    let mut frame = Vec::new(alloc);
-    frame.extend_from_slice(&size)?;
-    frame.push(RSTAT)?;
-    frame.extend_from_slice(&[0, 0])?;
-    frame.extend_from_slice(&len)?;
-    frame.extend_from_slice(bytes)?;
-    Ok(frame)
 }

@@ -451,3 +451,35 @@ nothing-codes = record {
   sound = λ bytes x fits e. (ap (λ (y : Unit {0} × List ℕ). y.1) (same_Some _ x e), tt);
   complete = λ x rest h. refl;
 }
+
+-- a stat by itself is read as it is spelled
+module _ (bytes : List ℕ) where
+  -- what is read of bytes, with nothing behind it, they spell
+  pub stat-sound : (s : StatFields) → IsBytes bytes → sized_at stat_fields_at bytes ≡ Some (s, [])
+      → stat_bytes s ≡ bytes
+  stat-sound s fits e =
+      let t = (sized-codes stat_fields-codes).sound bytes (s, []) fits e in
+      sym (t.0 ∙ append-nil (stat_bytes s))
+
+  -- a stat that they spell is read of them
+  pub stat-complete : (s : StatFields) → StatNumbersFit s → FitsStat s → stat_bytes s ≡ bytes
+      → sized_at stat_fields_at bytes ≡ Some (s, [])
+  stat-complete s numbers fits is =
+      ap (sized_at stat_fields_at) (sym is ∙ sym (append-nil (stat_bytes s)))
+      ∙ (sized-codes stat_fields-codes).complete s []
+      (
+        record {
+          numbers = numbers;
+          name = fits.name;
+          uid = fits.uid;
+          gid = fits.gid;
+          muid = fits.muid;
+        },
+        omega (arith, length-stat_fields s, fits.short),
+      )
+
+-- what has no byte
+pub none-left : (tested : Bool) (rest : List ℕ) → tested ≡ eqb (length rest) 0 → tested ≡ true
+    → rest ≡ []
+none-left tested rest is holds =
+    nil_from_length rest (eqb-true (length rest) 0 (sym is ∙ holds))

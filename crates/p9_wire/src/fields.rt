@@ -251,9 +251,9 @@ fn take_stat_fields(bytes: &[u8]) -> Option<(Stat<'_>, &[u8])>
     Some((stat, rest))
 }
 
-// A stat after its size, which its fields take up.
+/// A stat after its size, which its fields take up.
 #[tactic(auto, unfolding(crate::specs::FieldReading::sized_at))]
-fn take_stat(bytes: &[u8]) -> Option<(Stat<'_>, &[u8])>
+pub fn take_stat(bytes: &[u8]) -> Option<(Stat<'_>, &[u8])>
     ensures { Gives (λ x. (stat_view x.0, x.1.now)) result (sized_at stat_fields_at bytes.now) }
 {
     let (front, rest) = take_sized(bytes)?;
