@@ -25,10 +25,6 @@ entry_view entry = record {
 abbrev pub IsStat : {A : Type 0} → RMessage → Entry A → Type 0
 IsStat m entry = m ≡ Rstat (entry_view entry)
 
--- the frame of a reply to a stat, with these bytes as the stat and tag 0
-abbrev pub stat_frame : List ℕ → List ℕ
-stat_frame bytes = frame 125 0 (text bytes)
-
 -- an entry is the stat that these bytes are, or they are no stat
 abbrev pub IsEntryOf : {A : Type 0} → List ℕ → Option (Entry A) → Type 0
 IsEntryOf bytes None = (s : StatFields) → StatNumbersFit s → FitsStat s → stat_bytes s ≡ bytes → ⊥
