@@ -5,3 +5,5 @@ pub mod Including
 pub mod GivenFinds
 pub mod GivenBinds
 pub mod Lines
+pub mod Founds
+mod BadForms

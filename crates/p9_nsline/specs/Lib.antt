@@ -1,6 +1,7 @@
 pub mod Flags
 pub mod Operation
 pub mod Line
+pub mod Faults
 pub mod Variable
 pub mod Environment
 pub mod Space
