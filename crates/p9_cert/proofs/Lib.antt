@@ -7,3 +7,4 @@ pub mod Children
 pub mod Readings
 pub mod Gaps
 pub mod Written
+pub mod BadLines

@@ -6,4 +6,5 @@ pub mod Safe
 pub mod Closed
 pub mod Gap
 pub mod Text
+pub mod Faults
 pub mod Laws

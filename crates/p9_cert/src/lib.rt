@@ -9,6 +9,7 @@
 mod certificate;
 mod check;
 mod classes;
+mod faults;
 mod gap;
 mod inside;
 pub mod laws;
@@ -21,6 +22,7 @@ mod write;
 pub use certificate::Certificate;
 pub use check::verify;
 pub use classes::Classes;
+pub use faults::{BadLine, LineFault, bad_lines};
 pub use gap::{Gap, MemberFault, RowFault};
 pub use inside::{is_hidden, is_inside};
 pub use listed::may_pass;

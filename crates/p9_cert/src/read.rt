@@ -77,8 +77,8 @@ fn read_rows<A: Allocator + Copy>(
     Ok(certificate)
 }
 
-// Whether the words are `cert 1`.
-fn is_head(words: &[&str]) -> bool
+/// Whether the words are `cert 1`.
+pub(crate) fn is_head(words: &[&str]) -> bool
     ensures { result ≡ is_head (map (λ word. word.now) words.now) }
 {
     match words {
@@ -110,8 +110,8 @@ fn read_statement<A: Allocator + Copy>(
     Ok(())
 }
 
-// The row that the words of a line say, if they say one.
-fn row_in(words: &[&str]) -> Option<NodeRef>
+/// The row that the words of a line say, if they say one.
+pub(crate) fn row_in(words: &[&str]) -> Option<NodeRef>
     ensures row { result ≡ row_in (map (λ word. word.now) words.now) }
     ensures number { IfSome result (λ row. row.number < next_max) }
 {
