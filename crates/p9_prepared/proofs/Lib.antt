@@ -1,4 +1,5 @@
 mod Scripts
+mod BadEvents
 mod Bundles
 mod Smalls
 mod Worlds

@@ -1,4 +1,5 @@
 pub mod Script
+pub mod ScriptFaults
 pub mod Section
 pub mod Bundle
 pub mod Refusal

@@ -66,8 +66,11 @@ fn stated<A: Allocator + Copy>(
     }
 }
 
-// The event that the words of a line say, if they say one.
-fn event<A: Allocator + Copy>(alloc: A, words: &[&str]) -> Result<Option<Event<A>>, NoMemory>
+/// The event that the words of a line say, if they say one. The only error is a failed allocation.
+pub(crate) fn event<A: Allocator + Copy>(
+    alloc: A,
+    words: &[&str],
+) -> Result<Option<Event<A>>, NoMemory>
     ensures { IfOk result (λ event.
         option_map event_view event ≡ event_of (map (λ word. word.now) words.now)) }
 {
