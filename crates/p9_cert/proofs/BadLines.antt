@@ -1,7 +1,7 @@
 -- The bad lines of a text: one statement more, and that the first of them is the one for which the
 -- text is refused.
 use Rattle.std.proofs.Common.{◌≡◌, ℕ, ◌+◌, ◌-◌, ◌<◌, Bool, true, false, List, [], ◌∷◌, ◌++◌, length}
-use Rattle.std.proofs.Common.{drop, get_or, map, Option, Some, None, Result, Ok, Err, refl, sym, ap}
+use Rattle.std.proofs.Common.{drop, get_or, map, Option, Some, None, Result, refl, sym, ap}
 use Rattle.std.proofs.Common.{◌∙◌, append_assoc, length-append, arith}
 use Rattle.std.specs.Prelude.{option_map, slice_get}
 use Rattle.std.specs.Result.{result_err}
