@@ -466,8 +466,7 @@ module _ (bytes : List ℕ) where
       → sized_at stat_fields_at bytes ≡ Some (s, [])
   stat-complete s numbers fits is =
       ap (sized_at stat_fields_at) (sym is ∙ sym (append-nil (stat_bytes s)))
-      ∙ (sized-codes stat_fields-codes).complete s []
-      (
+      ∙ (sized-codes stat_fields-codes).complete s [] (
         record {
           numbers = numbers;
           name = fits.name;
