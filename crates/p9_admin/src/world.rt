@@ -14,7 +14,7 @@ use p9_shell::status::{DONE, REFUSED};
 use p9_shown::AsShown;
 use p9_space::Member;
 use p9_tree::Tree;
-use p9_world::{Unfit, World};
+use p9_world::{LineWords, Unfit, World};
 use std::alloc::Global;
 
 /// Prints what is kept in a folder as an input without a certificate, or writes it into the file of the
@@ -126,7 +126,8 @@ fn push_variables(alloc: Global, section: &str, text: &mut Vec<u8>) -> Result<()
 
 // Adds a line, where it is that of a variable.
 fn push_variable(alloc: Global, line: &str, text: &mut Vec<u8>) -> Result<(), NoMemory> {
-    if words(alloc, line)?.as_slice().first() == Some(&"set") {
+    let words = words(alloc, line)?;
+    if let Ok(LineWords::Set(_, _)) = LineWords::read(words.as_slice()) {
         text.extend_from_slice(line.as_bytes())?;
         text.push(b'\n')?;
     }

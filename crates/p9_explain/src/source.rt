@@ -1,8 +1,7 @@
 //! The input that is explained: its name, its lines, and which of them make nodes.
 
-use crate::layout::{Line, layout_of};
 use p9_base::{NoMemory, NodeRef, Statement, statements};
-use p9_prepared::Section;
+use p9_prepared::{InputLine, Section, input_lines};
 use p9_shown::AsShown;
 use p9_tree::Tree;
 use p9_world::{NodeLine, node_lines};
@@ -13,7 +12,7 @@ use std::alloc::Allocator;
 pub(crate) struct Source<'a, A: Allocator> {
     pub name: AsShown<'a>,
     input: &'a str,
-    pub lines: Vec<Line<'a>, A>,
+    pub lines: Vec<InputLine<'a>, A>,
     nodes: Vec<NodeLine, A>,
 }
 
@@ -23,7 +22,7 @@ impl<'a, A: Allocator + Copy> Source<'a, A> {
         Ok(Source {
             name: AsShown(name),
             input,
-            lines: layout_of(alloc, input)?,
+            lines: input_lines(alloc, input)?,
             nodes: Vec::new(alloc),
         })
     }
@@ -88,7 +87,7 @@ pub(crate) fn numbered_source<'a, T: Tree>(
 }
 
 // The number of a section's line among all lines. The line 0 is the one that begins the section.
-fn number_in(lines: &[Line<'_>], section: Section, line: u64) -> u64 {
+fn number_in(lines: &[InputLine<'_>], section: Section, line: u64) -> u64 {
     for first in lines {
         if first.begins == Some(section) {
             return first.number.saturating_add(line);
@@ -98,7 +97,7 @@ fn number_in(lines: &[Line<'_>], section: Section, line: u64) -> u64 {
 }
 
 // Where the lines of a section begin and end.
-fn place_of(lines: &[Line<'_>], section: Section) -> Option<(usize, usize)> {
+fn place_of(lines: &[InputLine<'_>], section: Section) -> Option<(usize, usize)> {
     let mut place = None;
     for line in lines {
         if line.begins == Some(section) {

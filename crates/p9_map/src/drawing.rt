@@ -170,7 +170,11 @@ fn draw_rect<A: Allocator + Copy>(svg: &mut Svg<A>, rect: Rect, mark: Mark) -> R
     let walk = walk_class(mark.number.is_some());
     let corners = corners_of(mark.is_dir);
     let width = rect.right.saturating_sub(rect.left);
-    push_rect(svg, class, walk, rect.left, rect.top, width, corners)
+    let at = Point {
+        x: rect.left,
+        y: rect.top,
+    };
+    push_rect(svg, class, walk, at, width, corners)
 }
 
 // The class of a box on the walk.
@@ -187,24 +191,23 @@ fn corners_of(is_dir: bool) -> &'static str
     if is_dir { "" } else { " rx=\"9\"" }
 }
 
-// Adds a rectangle of two classes.
+// Adds a rectangle of two classes, whose upper left corner is at a point.
 fn push_rect<A: Allocator + Copy>(
     svg: &mut Svg<A>,
     class: &str,
     walk: &str,
-    x: u64,
-    y: u64,
+    at: Point,
     width: u64,
     corners: &str,
 ) -> Result<(), NoMemory>
     ensures { OnOk result (string_bytes svg.new.text ≡ string_bytes svg.old.text
-        ++ rect_element class.now walk.now x y width corners.now) }
+        ++ rect_element class.now walk.now at.x at.y width corners.now) }
 {
     svg.push("<rect class=\"")?;
     svg.push(class)?;
     svg.push(walk)?;
     svg.push("\"")?;
-    push_place(svg, x, y, width)?;
+    push_place(svg, at.x, at.y, width)?;
     svg.push(corners)?;
     svg.push("/>\n")?;
     Ok(())

@@ -1,6 +1,6 @@
 -- One line of a bundle more.
 use Rattle.std.proofs.Common.{◌≡◌, ℕ, ◌+◌, ◌<◌, ◌≤◌, Bor, List, [], ◌∷◌, length, get_or, drop, map}
-use Rattle.std.proofs.Common.{Result, Ok, refl, sym, ap, ◌∙◌, arith}
+use Rattle.std.proofs.Common.{Result, Ok, Err, refl, sym, ap, ◌∙◌, arith}
 use Rattle.std.specs.List.{enumerate_from}
 use Rattle.std.proofs.lemmas.List.FromFn.{length-enumerate_from, get_or-enumerate_from}
 use Rattle.p9_base.specs.Results.{and_then, try_fold}
@@ -45,6 +45,16 @@ module _ (items : List (Bor (List ℕ))) (lines : List (List ℕ))
       numbered_same reading i after (i + 1, get_or items i d) (0, d) (numbered_below l)
       (numbered_at d l) read ∙ kept
 
+  -- the number of a line that is bad
+  pub line-bad : (n : ℕ) (d : Bor (List ℕ)) (all : Result Reading ℕ) → i < length items
+      → with_numbered_line reading (i + 1, (get_or items i d).now) ≡ Err n →
+      try_fold with_numbered_line reading (drop i (enumerate_from 1 lines)) ≡ all → all ≡ Err n
+  line-bad n d all l bad kept =
+      sym kept
+      ∙ try_fold-err with_numbered_line numbered_line (enumerate_from 1 items)
+      (enumerate_from 1 lines) numbered_same reading i n (i + 1, get_or items i d) (0, d)
+      (numbered_below l) (numbered_at d l) bad
+
   -- a line that is bad
   pub line-fault : (error : BundleError) (d : Bor (List ℕ)) (all : Result Reading ℕ)
       → i < length items
@@ -55,10 +65,7 @@ module _ (items : List (Bor (List ℕ))) (lines : List (List ℕ))
   line-fault (BadBundle n) d all l fault kept =
       ap (λ all. and_then all
       (λ (reading : Reading). let read : Result Texts ℕ = Ok reading.texts in read))
-      (sym kept
-      ∙ try_fold-err with_numbered_line numbered_line (enumerate_from 1 items)
-      (enumerate_from 1 lines) numbered_same reading i n (i + 1, get_or items i d) (0, d)
-      (numbered_below l) (numbered_at d l) fault)
+      (line-bad n d all l fault kept)
 
   -- after the last line
   pub lines-end : (all : Result Reading ℕ) → length items ≤ i

@@ -6,3 +6,4 @@ mod Worlds
 pub mod Paths
 mod NameSpaces
 mod Preparing
+mod Layouts

@@ -2,6 +2,8 @@ pub mod Script
 pub mod ScriptFaults
 pub mod Section
 pub mod Bundle
+pub mod Head
+pub mod Layout
 pub mod Refusal
 pub mod Small
 pub mod NameSpace

@@ -147,8 +147,8 @@ fn push_line<A: Allocator + Copy>(text: &mut Option<String<A>>, line: &str) -> R
     Ok(())
 }
 
-// Whether a line has nothing but blanks and tabs.
-fn is_blank(line: &str) -> bool
+/// Whether a line has nothing but blanks and tabs.
+pub(crate) fn is_blank(line: &str) -> bool
     ensures { result ≡ list_all is_blank line.now }
 {
     line.bytes().all(|byte| byte == b' ' || byte == b'\t')

@@ -3,7 +3,9 @@
 #![tactic(auto, unfolding(p9_base::specs::Results::need))]
 
 mod bundle;
+mod head;
 mod input;
+mod layout;
 mod line;
 mod name_space;
 mod path;
@@ -17,6 +19,8 @@ mod small;
 pub mod status;
 
 pub use bundle::{Bundle, BundleError, split_bundle};
+pub use head::Way;
+pub use layout::{InputLine, input_lines};
 pub use line::{print_bytes, print_line};
 pub use name_space::NameSpace;
 pub use path::{path_of, print_path, rooted_path, server_name};

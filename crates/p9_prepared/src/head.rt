@@ -1,22 +1,33 @@
 //! Lines that begin sections, and those that are meant to.
 
-use p9_prepared::{SECTIONS, Section};
+ghost use Rattle.p9_prepared.specs.Head.{IsHead};
+
+use crate::bundle::is_blank;
+use crate::section::{SECTIONS, Section};
 
 /// The way in which a line is bad that is to begin a section, or is before the first one.
-#[derive(Clone, Copy)]
-pub(crate) enum Way {
+#[derive(Clone, Copy, Debug, PartialEq, Eq)]
+pub enum Way {
+    /// A byte order mark is before it.
     ByteOrderMark,
+    /// A carriage return is at its end.
     CarriageReturn,
+    /// A blank is behind the section's name.
     BlankAfter,
+    /// The section's name has capitals.
     Capitals,
+    /// No section has this name.
     UnknownName,
+    /// The section was begun before.
     Twice,
+    /// A section that comes later was begun before.
     WrongOrder,
+    /// It is before the first section, and not blank.
     TextBefore,
 }
 
 impl Way {
-    /// What is wrong, and what was expected.
+    /// What is wrong, and what is expected.
     pub fn text(self) -> &'static str {
         match self {
             Way::ByteOrderMark => "a byte order mark is at the line's front: none is to be there",
@@ -42,17 +53,30 @@ pub(crate) enum Head {
     Bad(Option<Section>, Way),
 }
 
-/// What a line says of sections.
-pub(crate) fn head_of(line: &str) -> Head {
-    if let Some(section) = Section::begun_by(line) {
-        return Head::Begins(section);
+/// What a line says of sections, where a line before it says something of them, or none does.
+pub(crate) fn head_of(line: &str, headed: bool) -> Head
+    ensures { IsHead line.now headed result }
+{
+    if line.starts_with("%%") {
+        return match Section::begun_by(line) {
+            Some(section) => Head::Begins(section),
+            None => {
+                let (section, way) = meant_by(line);
+                Head::Bad(section, way)
+            }
+        };
     }
-    if let Some(section) = section_marked(line) {
-        return Head::Bad(Some(section), Way::ByteOrderMark);
-    }
-    if !line.starts_with("%%") {
+    if headed || is_blank(line) {
         return Head::Other;
     }
+    match section_marked(line) {
+        Some(section) => Head::Bad(Some(section), Way::ByteOrderMark),
+        None => Head::Other,
+    }
+}
+
+// Which section a line is meant to begin that begins none, where that is known, and how it is bad.
+fn meant_by(line: &str) -> (Option<Section>, Way) {
     let trimmed = line.trim_end();
     let section = section_meant(trimmed);
     let way = if section.is_none() {
@@ -64,7 +88,7 @@ pub(crate) fn head_of(line: &str) -> Head {
     } else {
         Way::BlankAfter
     };
-    Head::Bad(section, way)
+    (section, way)
 }
 
 // The section that a line is meant to begin after a byte order mark.
