@@ -12,7 +12,7 @@ use crate::source::{Source, numbered_source};
 use crate::teller::{Teller, push, shown_path};
 use p9_base::{NoMemory, NodeRef, User};
 use p9_fixed::{Change, ChangeKind, changer};
-use p9_prepared::{Needs, Prepared, Section, Stop, prepare};
+use p9_prepared::{Stop, name_space_of};
 use p9_shown::shown;
 use p9_tree::Tree;
 use p9_world::World;
@@ -20,8 +20,8 @@ use p9_world::World;
 /// Says in words what a listed user can change in the name space of an input, and how that is mended:
 /// two lines, which are appended to `out`. They name the input by `name`, as those of
 /// [`explain`](crate::explain) do. The change is what [`first_change`](p9_fixed::first_change)
-/// returns over that name space. Neither the input's certificate nor its script is read. Of an input
-/// with a fault in its world nothing is said.
+/// returns over that name space. The input's certificate is not read. Of an input with another fault
+/// nothing is said.
 ///
 /// Where an allocation fails, it returns [`NoMemory`], and `out` is as before.
 pub fn explain_change<T: Tree>(
@@ -34,9 +34,8 @@ pub fn explain_change<T: Tree>(
     ensures no_memory { OnErr result (out.new.items ≡ out.old.items) }
 {
     let alloc = *out.allocator();
-    let input = str::from_utf8(input).unwrap_or("");
-    let source = numbered_source::<T>(alloc, name, input)?;
-    let text = mended_words::<T>(alloc, &source, change)?;
+    let source = numbered_source::<T>(alloc, name, str::from_utf8(input).unwrap_or(""))?;
+    let text = mended_words::<T>(alloc, &source, input, change)?;
     out.extend_from_slice(text.as_bytes())?;
     Ok(())
 }
@@ -45,35 +44,19 @@ pub fn explain_change<T: Tree>(
 fn mended_words<T: Tree>(
     alloc: T::Alloc,
     source: &Source<'_, T::Alloc>,
+    input: &[u8],
     change: &Change,
 ) -> Result<String<T::Alloc>, NoMemory> {
-    match prepared_world::<T>(alloc, source)? {
-        Some(prepared) => {
-            let words = change_words(alloc, source, &prepared.space.world, change);
-            prepared.discard();
+    match name_space_of::<T>(alloc, input) {
+        Ok(space) => {
+            let words = change_words(alloc, source, &space.world, change);
+            space.discard();
             let words = words?;
             let mend = mend(change.kind);
             Ok(format!(in alloc; "{words}mend: {mend}\n")?)
         }
-        None => Ok(String::new(alloc)),
-    }
-}
-
-// The world of an input, prepared without the other sections, if it has no fault.
-fn prepared_world<T: Tree>(
-    alloc: T::Alloc,
-    source: &Source<'_, T::Alloc>,
-) -> Result<Option<Prepared<T>>, NoMemory> {
-    let draft = match source.text(Section::World) {
-        Some(text) => format!(in alloc; "{}\n{text}", Section::World.head())?,
-        None => String::new(alloc),
-    };
-    match prepare::<T>(alloc, draft.as_str().as_bytes(), Needs::Nothing) {
-        Ok(prepared) => Ok(Some(prepared)),
-        Err(error) => match error.stop {
-            Stop::Refused(_) => Ok(None),
-            Stop::NoMemory => Err(NoMemory),
-        },
+        Err(Stop::Refused(_)) => Ok(String::new(alloc)),
+        Err(Stop::NoMemory) => Err(NoMemory),
     }
 }
 

@@ -61,6 +61,14 @@ certificate_in Certificate None = Err NoCertificate
 abbrev pub script_in : Texts → Result (List Event) Refusal
 script_in texts = or_refused BadEvent (script_of (unwrap_or texts.script []))
 
+-- a name space, where the script of its bundle is good
+abbrev pub space_with : Texts → NameSpace → Result NameSpace Refusal
+space_with texts space = and_then (script_in texts) (λ events. Ok space)
+
+-- the name space of an input, or its first fault; its certificate is not read
+abbrev pub space_of : List ℕ → Result NameSpace Refusal
+space_of input = and_then (opened input) (λ found. space_with found.0 found.1)
+
 -- the certificate and the script of a bundle
 abbrev pub rest_in : Needs → Texts → Result (Option (List NodeRef) × List Event) Refusal
 rest_in needs texts =

@@ -24,7 +24,7 @@ pub use layout::{InputLine, input_lines};
 pub use line::{print_bytes, print_line};
 pub use name_space::NameSpace;
 pub use path::{path_of, print_path, rooted_path, server_name};
-pub use prepared::{Needs, PrepareError, Prepared, prepare, prepare_and_report};
+pub use prepared::{Needs, PrepareError, Prepared, name_space_of, prepare, prepare_and_report};
 pub use refusal::{Refusal, Stop, print_stop};
 pub use report::print_reports;
 pub use script::{ScriptError, read_script};

@@ -45,6 +45,10 @@ impl<T: Tree> Model for NameSpace<T> {
 }
 
 impl<T: Tree> NameSpace<T> {
+    /// Drops it. A caller in another crate that drops it so has no code of its own that drops its
+    /// parts, and nothing to prove of them.
+    pub fn discard(self) {}
+
     /// The name space of these sections. Without a world section the world is `small`, and without
     /// a namespace section nothing is mounted.
     ///

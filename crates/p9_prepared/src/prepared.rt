@@ -4,7 +4,8 @@ ghost use Rattle.std.specs.Prelude.{◌≡◌, IfErr, IfOk, Ok, map};
 ghost use Rattle.p9_cert.specs.declared.gap.Gap.{Gap};
 ghost use Rattle.p9_prepared.specs.Bundle.{bundle_view};
 ghost use Rattle.p9_prepared.specs.Prepared.{IsPrepareError, IsReported, gap_in, opened};
-ghost use Rattle.p9_prepared.specs.Prepared.{prepared_of, prepared_with, rest_in};
+ghost use Rattle.p9_prepared.specs.Prepared.{prepared_of, prepared_with, rest_in, space_of};
+ghost use Rattle.p9_prepared.specs.Prepared.{space_with};
 ghost use Rattle.p9_prepared.specs.Refusal.{IsStop};
 ghost use Rattle.p9_export.specs.Event.{event_view};
 
@@ -124,6 +125,38 @@ pub fn prepare_and_report<T: Tree>(
             print_reports(reports.as_slice(), err)?;
             print_stop(stop, err)?;
             Ok(None)
+        }
+    }
+}
+
+/// The name space of an input, whose certificate is not read.
+///
+/// The errors are those of [`prepare`], without reports and but for those of the certificate. Where an
+/// allocation fails, the error is [`Stop::NoMemory`] in the place of any fault.
+pub fn name_space_of<T: Tree>(alloc: T::Alloc, input: &[u8]) -> Result<NameSpace<T>, Stop>
+    ensures ok { IfOk result (λ space. space_of input.now ≡ Ok space) }
+    ensures stop { IfErr result (IsStop (space_of input.now)) }
+{
+    match opened(alloc, input) {
+        Ok((bundle, space)) => space_with(alloc, &bundle, space),
+        Err(stop) => Err(stop),
+    }
+}
+
+// A name space, where the script of its bundle is good.
+fn space_with<T: Tree>(
+    alloc: T::Alloc,
+    bundle: &Bundle<T::Alloc>,
+    space: NameSpace<T>,
+) -> Result<NameSpace<T>, Stop>
+    ensures ok { IfOk result (λ found. space_with (bundle_view bundle.now) space ≡ Ok found) }
+    ensures stop { IfErr result (IsStop (space_with (bundle_view bundle.now) space)) }
+{
+    match script(alloc, bundle) {
+        Ok(_) => Ok(space),
+        Err(stop) => {
+            space.discard();
+            Err(stop)
         }
     }
 }

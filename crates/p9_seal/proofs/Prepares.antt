@@ -14,10 +14,9 @@ use Rattle.p9_world.specs.World.{World}
 use Rattle.p9_prepared.specs.Bundle.{Texts, bundle_of}
 use Rattle.p9_prepared.specs.NameSpace.{NameSpace, space_in, space_over, world_in}
 use Rattle.p9_prepared.specs.Prepared.{Prepared, Rejected, certificate_in, prepared_of, script_in}
-use Rattle.p9_prepared.specs.Prepared.{with_reports}
+use Rattle.p9_prepared.specs.Prepared.{space_of, with_reports}
 use Rattle.p9_prepared.specs.declared.prepared.Needs.{Needs}
 use Rattle.p9_prepared.specs.declared.refusal.Refusal.{Refusal}
-use Rattle.p9_seal.specs.Sealing.{space_of}
 use Rattle.p9_seal.specs.Sections.{HasCertificate, statements_in}
 
 -- Sections that say the same.
@@ -88,26 +87,6 @@ joined space events rows =
 -- the name space, where there are events too
 abbrev pub alone : Result NameSpace Refusal → Result (List Event) Refusal → Result NameSpace Refusal
 alone space events = and_then space (λ s. and_then events (λ es. Ok s))
-
-pub joined-ok : (space : Result NameSpace Refusal) (events : Result (List Event) Refusal)
-    (rows : List NodeRef) (prepared : Prepared) → joined space events rows ≡ Ok prepared
-    → alone space events ≡ Ok prepared.space
-joined-ok (Ok s) (Ok es) rows prepared e =
-    let is : record { space = s; rows = Some rows; events = es } ≡ prepared = cc in
-    ap (λ (p : Prepared). let found : Result NameSpace Refusal = Ok p.space in found) is
-joined-ok (Ok s) (Err refusal) rows prepared e = absurd (cc)
-joined-ok (Err refusal) events rows prepared e = absurd (cc)
-
-pub joined-err : (space : Result NameSpace Refusal) (events : Result (List Event) Refusal)
-    (rows : List NodeRef) (rejected : Rejected) → joined space events rows ≡ Err rejected
-    → alone space events ≡ Err rejected.refusal
-joined-err (Ok s) (Ok es) rows rejected e = absurd (cc)
-joined-err (Ok s) (Err refusal) rows rejected e =
-    let is : record { reports = s.reports; refusal = refusal } ≡ rejected = cc in
-    ap (λ (r : Rejected). let found : Result NameSpace Refusal = Err r.refusal in found) is
-joined-err (Err refusal) events rows rejected e =
-    let is : record { reports = []; refusal = refusal } ≡ rejected = cc in
-    ap (λ (r : Rejected). let found : Result NameSpace Refusal = Err r.refusal in found) is
 
 pub alone-ok : (space : Result NameSpace Refusal) (events : Result (List Event) Refusal)
     (rows : List NodeRef) (s : NameSpace) → alone space events ≡ Ok s →

@@ -4,33 +4,27 @@ use Rattle.std.proofs.Common.{IfErr, IfOk}
 use Rattle.std.proofs.Common.{refl, sym, ap, ◌∙◌, subst, arith}
 use Rattle.std.specs.Str.{is_utf8}
 use Rattle.p9_base.specs.declared.node_ref.NodeRef.{NodeRef}
-use Rattle.p9_base.specs.declared.stop.Stop.{Stop}
-use Rattle.p9_base.specs.declared.stop.Stop.TheVariants.{Refused, NoMemory}
 use Rattle.p9_base.specs.Results.{need}
 use Rattle.p9_cert.specs.Rows.{IsCertificate}
 use Rattle.p9_cert.specs.Text.{certificate_text}
 use Rattle.p9_cert.proofs.Written.{written_reads_back}
 use Rattle.p9_prepared.specs.Bundle.{Texts, bundle_of}
 use Rattle.p9_prepared.specs.NameSpace.{NameSpace, space_in}
-use Rattle.p9_nsline.specs.Space.{Report}
-use Rattle.p9_prepared.specs.Prepared.{IsPrepareErrorBy, Prepared, Rejected, prepared_of, script_in}
-use Rattle.p9_prepared.specs.Refusal.{IsStop, or_refused}
+use Rattle.p9_prepared.specs.Prepared.{prepared_of, script_in, space_of}
 use Rattle.p9_prepared.specs.declared.prepared.Needs.{Needs}
-use Rattle.p9_prepared.specs.declared.prepared.Needs.TheVariants.{Nothing}
-use Rattle.p9_prepared.specs.declared.refusal.Refusal.{Refusal}
 use Rattle.p9_prepared.specs.declared.refusal.Refusal.TheVariants.{BadSection, NotUtf8}
 use Rattle.p9_seal.specs.declared.error.SealError.{SealError}
 use Rattle.p9_seal.specs.declared.error.SealError.TheVariants.{Empty, Refused as RefusedInput, No, Vacuous}
 use Rattle.p9_seal.specs.declared.error.SealError.TheVariants.{Changeable}
 use Rattle.p9_seal.specs.declared.error.SealError.TheVariants.{NoMemory as OutOfMemory}
 use Rattle.p9_seal.specs.Sealing.{IsBundle, IsSealError, IsSealable, IsSealed, IsUnsealed}
-use Rattle.p9_seal.specs.Sealing.{IsWished, is_empty, space_of}
+use Rattle.p9_seal.specs.Sealing.{IsWished, is_empty}
 use Rattle.p9_seal.specs.declared.wishes.Wishes.{Wishes}
 use Rattle.p9_seal.specs.Sections.{HasCertificate}
 use Rattle.p9_seal.specs.Text.{sealed_text}
 use Rattle.p9_seal.proofs.Certificates.{cert_lines, cert_lines-begin, cert_lines-clean}
 use Rattle.p9_seal.proofs.Certificates.{cert_lines-written}
-use Rattle.p9_seal.proofs.Prepares.{alone-ok, joined, joined-err, joined-ok, prepared_of-parts}
+use Rattle.p9_seal.proofs.Prepares.{alone-ok, joined, prepared_of-parts}
 use Rattle.p9_seal.proofs.Prepares.{space_of-parts}
 use Rattle.p9_seal.proofs.Resealed.{resealed}
 
@@ -53,49 +47,17 @@ module _ (input : List ℕ) (rows : List NodeRef) (sound : IsCertificate rows) (
       prepared_of-parts needs (sealed_text input (certificate_text rows)) (certificate_text rows) texts
       there.0 rows utf8 there.1 there.2 (written_reads_back rows sound)
 
--- no rows are a certificate
-empty-certificate : IsCertificate []
-empty-certificate = record {
-  rising = λ i j d lt within. absurd (omega arith);
-  sound = λ k d within. absurd (omega arith);
-}
-
--- The name space, by an input with a certificate of no rows.
-module _ (input draft : List ℕ) (texts : Texts) (utf8 : is_utf8 input ≡ true)
-    (utf8_draft : is_utf8 draft ≡ true) (bundle : bundle_of input ≡ Ok texts)
-    (written : draft ≡ sealed_text input (certificate_text [])) where
-  drafted : prepared_of Nothing draft ≡ joined (space_in texts.world texts.ns) (script_in texts) []
-  drafted =
-      ap (prepared_of Nothing) written
-      ∙ sealed-prepared input [] empty-certificate texts bundle Nothing
-      (subst (λ t. is_utf8 t ≡ true) written utf8_draft)
-
-  pub read-ok : (prepared : Prepared) → prepared_of Nothing draft ≡ Ok prepared
-      → space_of input ≡ Ok prepared.space
-  read-ok prepared found =
-      space_of-parts input texts utf8 bundle
-      ∙ joined-ok (space_in texts.world texts.ns) (script_in texts) [] prepared (sym drafted ∙ found)
-
-  pub read-err : (rejected : Rejected) → prepared_of Nothing draft ≡ Err rejected
-      → space_of input ≡ Err rejected.refusal
-  read-err rejected found =
-      space_of-parts input texts utf8 bundle
-      ∙ joined-err (space_in texts.world texts.ns) (script_in texts) [] rejected (sym drafted ∙ found)
-
-  pub read-stop : (reports : List Report) (stop : Stop Refusal)
-      → IsPrepareErrorBy (prepared_of Nothing draft) reports stop → IsStop (space_of input) stop
-  read-stop reports NoMemory stopped = tt
-  read-stop reports (Refused refusal) stopped =
-      read-err (record { reports = reports; refusal = refusal }) stopped
-
--- a text that is no bundle
-pub bad-bundle : (input : List ℕ) → is_utf8 input ≡ true → (stop : Stop Refusal)
-    → IsStop (or_refused BadSection (bundle_of input)) stop → IsStop (space_of input) stop
+-- an input whose name space is read is a bundle
+pub read-bundle : (input : List ℕ) → is_utf8 input ≡ true → (space : NameSpace)
+    → space_of input ≡ Ok space → IsBundle input
 unfolding need
-bad-bundle input utf8 NoMemory stopped = tt
-bad-bundle input utf8 (Refused refusal) stopped = rw (utf8, stopped) refl
+read-bundle input utf8 space read = by (bundle_of input) refl
+  where
+    by : (b : Result Texts ℕ) → bundle_of input ≡ b → IsBundle input
+    by (Ok texts) e = (texts, e)
+    by (Err line) e = absurd (let t : Err (BadSection line) ≡ Ok space = rw (utf8, e) at read in cc)
 
--- and no text at all
+-- no text at all
 pub no-text : (input : List ℕ) → is_utf8 input ≡ false → space_of input ≡ Err NotUtf8
 unfolding need
 no-text input utf8 = rw utf8 refl

@@ -4,7 +4,6 @@ use Rattle.std.specs.Prelude.{IsTrue}
 use Rattle.std.specs.List.{AllByRecursion, list_all}
 use Rattle.p9_base.specs.Line.{is_blank}
 use Rattle.p9_base.specs.declared.node_ref.NodeRef.{NodeRef}
-use Rattle.p9_base.specs.Results.{and_then}
 use Rattle.p9_cert.specs.Policy.{policy_of}
 use Rattle.p9_cert.specs.Rows.{is_row}
 use Rattle.p9_cert.specs.Text.{certificate_text}
@@ -16,7 +15,7 @@ use Rattle.p9_judge.specs.declared.breach.Breach.{Breach}
 use Rattle.p9_step.specs.Event.{Event}
 use Rattle.p9_prepared.specs.Bundle.{Texts, bundle_of}
 use Rattle.p9_prepared.specs.NameSpace.{NameSpace, gap_over}
-use Rattle.p9_prepared.specs.Prepared.{opened, prepared_of, script_in}
+use Rattle.p9_prepared.specs.Prepared.{prepared_of, space_of}
 use Rattle.p9_prepared.specs.declared.prepared.Needs.{Needs}
 use Rattle.p9_prepared.specs.declared.refusal.Refusal.{Refusal}
 use Rattle.p9_seal.specs.Error.{change_against, vacuity_against}
@@ -31,11 +30,6 @@ use Rattle.p9_seal.specs.declared.wishes.Wishes.{Wishes}
 -- the input has nothing but blanks, tabs and newlines
 abbrev pub is_empty : List ℕ → Bool
 is_empty input = list_all (λ b. is_blank b || b == 10) input
-
--- the name space of an input, or its first fault; its certificate is not read
-abbrev pub space_of : List ℕ → Result NameSpace Refusal
-space_of input =
-    and_then (opened input) (λ found. and_then (script_in found.0) (λ events. Ok found.1))
 
 -- What is said of a name space.
 

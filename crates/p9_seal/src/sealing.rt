@@ -1,17 +1,13 @@
 //! The sealing of an input.
 
-ghost use Rattle.std.specs.Prelude.{◌≡◌, IfErr, IfOk, None, Ok, OnOk, true};
+ghost use Rattle.std.specs.Prelude.{◌≡◌, IfErr, IfOk, None, true};
 ghost use Rattle.std.specs.Str.{is_utf8};
 ghost use Rattle.std.specs.String.{string_bytes};
 ghost use Rattle.p9_cert.specs.Rows.{IsCertificate};
 ghost use Rattle.p9_cert.specs.Text.{certificate_text};
-ghost use Rattle.p9_prepared.specs.Bundle.{bundle_of};
-ghost use Rattle.p9_prepared.specs.Refusal.{IsStop, or_refused};
-ghost use Rattle.p9_prepared.specs.declared.refusal.Refusal.TheVariants.{BadSection};
 ghost use Rattle.p9_seal.specs.Error.{vacuity_against};
-ghost use Rattle.p9_seal.specs.Sealing.{IsBundle, IsSealError, IsSealable, IsSealed, IsUnsealed, IsWished};
-ghost use Rattle.p9_seal.specs.Sealing.{IsYes};
-ghost use Rattle.p9_seal.specs.Sealing.{is_empty, space_of};
+ghost use Rattle.p9_seal.specs.Sealing.{IsSealError, IsSealable, IsSealed, IsUnsealed, IsWished, IsYes};
+ghost use Rattle.p9_seal.specs.Sealing.{is_empty};
 ghost use Rattle.p9_seal.specs.Text.{sealed_text};
 
 use crate::error::{SealError, vacuity_against};
@@ -20,7 +16,7 @@ use crate::wishes::{Wishes, change_against};
 use p9_base::NoMemory;
 use p9_cert::{Certificate, write_cert};
 use p9_judge::{Verdict, judge};
-use p9_prepared::{BundleError, NameSpace, Needs, Prepared, Refusal, Stop, prepare, split_bundle};
+use p9_prepared::{NameSpace, Refusal, name_space_of};
 use p9_tree::Tree;
 use std::alloc::Allocator;
 
@@ -78,36 +74,10 @@ fn certificate_of<T: Tree>(
     ensures ok { IfOk result (IsSealable text.now wishes) }
     ensures err { IfErr result (IsSealError text.now wishes) }
 {
-    let prepared = prepare_draft::<T>(alloc, text)?;
-    let certificate = certificate_over(alloc, &prepared.space, wishes);
-    prepared.discard();
+    let space = name_space_of::<T>(alloc, text.as_bytes())?;
+    let certificate = certificate_over(alloc, &space, wishes);
+    space.discard();
     certificate
-}
-
-// The input prepared with a certificate without rows in the place of its own, which is not read.
-fn prepare_draft<T: Tree>(alloc: T::Alloc, text: &str) -> Result<Prepared<T>, Stop>
-    ensures ok { IfOk result (λ prepared. space_of text.now ≡ Ok prepared.space) }
-    ensures bundle { OnOk result (IsBundle text.now) }
-    ensures stop { IfErr result (IsStop (space_of text.now)) }
-{
-    test_bundle(alloc, text)?;
-    let draft = with_certificate(alloc, text, "cert 1\n")?;
-    match prepare::<T>(alloc, draft.as_str().as_bytes(), Needs::Nothing) {
-        Ok(prepared) => Ok(prepared),
-        Err(error) => Err(error.stop),
-    }
-}
-
-// Whether the input is a bundle; its first bad line, where it is none.
-fn test_bundle<A: Allocator + Copy>(alloc: A, text: &str) -> Result<(), Stop>
-    ensures ok { OnOk result (IsBundle text.now) }
-    ensures stop { IfErr result (IsStop (or_refused BadSection (bundle_of text.now))) }
-{
-    match split_bundle(alloc, text) {
-        Ok(_) => Ok(()),
-        Err(BundleError::BadBundle { line }) => Err(Stop::Refused(Refusal::BadSection { line })),
-        Err(BundleError::NoMemory) => Err(Stop::NoMemory),
-    }
 }
 
 // The judge's certificate over a name space, if the verdict is a yes as it is wished.
