@@ -12,7 +12,7 @@ use p9_base::{NoMemory, SERVERS_MAX};
 use p9_tree::Tree;
 
 /// Changes a world as a bad line of this number and these words may have been meant to. A server joins,
-/// under its name if no other has that; where none is there that a file or a directory joins, one
+/// under its name if no other has that, unless the last one has it; where none is there that a file or a directory joins, one
 /// does; and a directory joins without rights where its mode, its owner or its group is bad.
 pub(crate) fn go_on<T: Tree>(
     alloc: T::Alloc,
@@ -48,17 +48,19 @@ fn read_again<T: Tree>(
     }
 }
 
-// A server of this name joins, or one that is named by its line where another has the name.
+// A server of this name joins. Where the last one has it, that goes on; where another one has it, a
+// server joins that is named by its line.
 fn guess_server<T: Tree>(
     alloc: T::Alloc,
     world: &mut Reader<T>,
     name: &str,
     line: u64,
 ) -> Result<(), NoMemory> {
-    if world.server_positions.has(name) {
-        return guess_other_server(alloc, world, line);
+    match world.server_positions.of(name) {
+        None => join(alloc, world, name),
+        Some(position) if position == world.servers.len().saturating_sub(1) => Ok(()),
+        Some(_) => guess_other_server(alloc, world, line),
     }
-    join(alloc, world, name)
 }
 
 // A server that is named by a line joins.
