@@ -1,8 +1,9 @@
 //! An input that is prepared: all that the commands and the server take from it.
 
-ghost use Rattle.std.specs.Prelude.{◌≡◌, IfErr, IfOk, Ok, map};
+ghost use Rattle.std.specs.Prelude.{◌≡◌, IfErr, IfOk, Ok, OnOk, map};
 ghost use Rattle.p9_cert.specs.declared.gap.Gap.{Gap};
 ghost use Rattle.p9_prepared.specs.Bundle.{bundle_view};
+ghost use Rattle.p9_prepared.specs.NameSpace.{NameSpace as NameSpaceOf};
 ghost use Rattle.p9_prepared.specs.Prepared.{IsPrepareError, IsReported, gap_in, opened};
 ghost use Rattle.p9_prepared.specs.Prepared.{prepared_of, prepared_with, rest_in, space_of};
 ghost use Rattle.p9_prepared.specs.Prepared.{space_with};
@@ -152,12 +153,25 @@ fn space_with<T: Tree>(
     ensures ok { IfOk result (λ found. space_with (bundle_view bundle.now) space ≡ Ok found) }
     ensures stop { IfErr result (IsStop (space_with (bundle_view bundle.now) space)) }
 {
-    match script(alloc, bundle) {
-        Ok(_) => Ok(space),
+    match test_script(alloc, bundle) {
+        Ok(()) => Ok(space),
         Err(stop) => {
             space.discard();
             Err(stop)
         }
+    }
+}
+
+// Whether the script of a bundle is good; its first bad line, where it is not.
+fn test_script<A: Allocator + Copy>(alloc: A, bundle: &Bundle<A>) -> Result<(), Stop>
+    ensures ok { OnOk result ((space : NameSpaceOf)
+        → space_with (bundle_view bundle.now) space ≡ Ok space) }
+    ensures stop { IfErr result (λ stop. (space : NameSpaceOf)
+        → IsStop (space_with (bundle_view bundle.now) space) stop) }
+{
+    match script(alloc, bundle) {
+        Ok(_) => Ok(()),
+        Err(stop) => Err(stop),
     }
 }
 
