@@ -7,7 +7,8 @@ use clap::ArgMatches;
 use p9_base::{NoMemory, NodeRef, Stop, lines, words};
 use p9_pack::{UnfitNode, is_same_world, unfit_nodes, write_world};
 use p9_prepared::{
-    Bundle, BundleError, NameSpace, Needs, Section, path_of, prepare, print_line, split_bundle,
+    Bundle, BundleError, NameSpace, Needs, Part, Section, path_of, prepare, print_line,
+    split_bundle,
 };
 use p9_shell::Failure;
 use p9_shell::status::{DONE, REFUSED};
@@ -93,18 +94,18 @@ fn input_text<T: Tree<Alloc = Global>>(
     let mut text = Vec::new(alloc);
     print_line(Section::World.head(), &mut text)?;
     write_world(alloc, world, &mut text)?;
-    if let Some(section) = &bundle.world {
-        push_variables(alloc, section.as_str(), &mut text)?;
+    if let Some(part) = bundle.world {
+        push_variables(alloc, part.text, &mut text)?;
     }
-    push_section(Section::Ns, &bundle.ns, &mut text)?;
-    push_section(Section::Script, &bundle.script, &mut text)?;
+    push_section(Section::Ns, bundle.ns, &mut text)?;
+    push_section(Section::Script, bundle.script, &mut text)?;
     Ok(text)
 }
 
 // The sections of an export, which is a bundle.
-fn sections(alloc: Global, export: &[u8]) -> Result<Bundle<Global>, NoMemory> {
+fn sections(alloc: Global, export: &[u8]) -> Result<Bundle<'_>, NoMemory> {
     let text = str::from_utf8(export).unwrap_or("");
-    match split_bundle(alloc, text.strip_suffix('\n').unwrap_or(text)) {
+    match split_bundle(alloc, text) {
         Ok(bundle) => Ok(bundle),
         Err(BundleError::NoMemory) => Err(NoMemory),
         Err(BundleError::BadBundle { .. }) => Ok(Bundle {
@@ -134,15 +135,19 @@ fn push_variable(alloc: Global, line: &str, text: &mut Vec<u8>) -> Result<(), No
     Ok(())
 }
 
-// Adds a section, where it is there.
+// Adds a section, where it is there, with a newline behind its last line too.
 fn push_section(
     section: Section,
-    lines: &Option<String>,
+    part: Option<Part<'_>>,
     text: &mut Vec<u8>,
 ) -> Result<(), NoMemory> {
-    if let Some(lines) = lines {
-        print_line(section.head(), text)?;
-        text.extend_from_slice(lines.as_bytes())?;
+    let Some(part) = part else {
+        return Ok(());
+    };
+    print_line(section.head(), text)?;
+    text.extend_from_slice(part.text.as_bytes())?;
+    if !part.text.is_empty() && !part.text.ends_with('\n') {
+        text.push(b'\n')?;
     }
     Ok(())
 }

@@ -21,28 +21,28 @@ module _ {X : Type 0} (view : X → ℕ × List (List ℕ)) (items : List X) (i 
     (rows : LastRows) (l : i < length items) (at : x ≡ get_or items i d) where
   -- the bad rows from a place on: what is found of the statement there, and behind it
   bad_rows-drop : bad_rows_in rows (drop i (map view items))
-      ≡ bad_row_in rows (view x).0 (row_in (view x).1)
+      ≡ bad_row_in rows (view x) (row_in (view x).1)
       ++ bad_rows_in (rows_with rows (row_in (view x).1)) (drop (i + 1) (map view items))
   bad_rows-drop =
       let short : i < length (map view items) = omega (arith, length-map items view) in
       let here : get_or (map view items) i (view x) ≡ view x =
       get_or-map view items i d (view x) l ∙ ap view (sym at) in
       at_drop_more (bad_rows_in rows) (map view items) i (view x) short
-      ∙ ap (λ y. bad_row_in rows y.0 (row_in y.1)
+      ∙ ap (λ y. bad_row_in rows y (row_in y.1)
       ++ bad_rows_in (rows_with rows (row_in y.1)) (drop (i + 1) (map view items))) here
 
   -- what was found and what is left to find, with one statement more
   pub bad_rows-more : (before after all : List BadLine) (row : Option NodeRef) (next : LastRows)
-      → row ≡ row_in (view x).1 → after ≡ before ++ bad_row_in rows (view x).0 row
+      → row ≡ row_in (view x).1 → after ≡ before ++ bad_row_in rows (view x) row
       → next ≡ rows_with rows row → before ++ bad_rows_in rows (drop i (map view items)) ≡ all →
       after ++ bad_rows_in next (drop (i + 1) (map view items)) ≡ all
   bad_rows-more before after all row next says added goes_on kept =
       let others = drop (i + 1) (map view items) in
-      let line = (view x).0 in
+      let statement = view x in
       ap (λ a. a ++ bad_rows_in next others) added
-      ∙ ap (λ n. (before ++ bad_row_in rows line row) ++ bad_rows_in n others) goes_on
-      ∙ append_assoc before (bad_row_in rows line row) (bad_rows_in (rows_with rows row) others)
-      ∙ ap (λ r. before ++ (bad_row_in rows line r ++ bad_rows_in (rows_with rows r) others)) says
+      ∙ ap (λ n. (before ++ bad_row_in rows statement row) ++ bad_rows_in n others) goes_on
+      ∙ append_assoc before (bad_row_in rows statement row) (bad_rows_in (rows_with rows row) others)
+      ∙ ap (λ r. before ++ (bad_row_in rows statement r ++ bad_rows_in (rows_with rows r) others)) says
       ∙ ap (λ found. before ++ found) (sym bad_rows-drop) ∙ kept
 
 -- the number of the first bad line
@@ -63,13 +63,13 @@ last-push rows row =
     (sym (get_or_push rows row row (length (rows ++ row ∷ []) - 1) (sym long)))
 
 -- one line more, whose row is greater than the last one or not
-module _ (last : LastRows) (rows : List NodeRef) (same : last_of rows ≡ last.last) (line : ℕ)
+module _ (last : LastRows) (rows : List NodeRef) (same : last_of rows ≡ last.last) (statement : ℕ × List (List ℕ))
     (others : LastRows → List BadLine) (after : List NodeRef → Result (List NodeRef) ℕ)
     (later : (l : LastRows) (rs : List NodeRef) → last_of rs ≡ l.last
     → first_line (others l) ≡ result_err (after rs)) where
   first-of-row : (row : NodeRef) (b : Bool) → is_behind last.last row ≡ b →
-      first_line (bad_row_in last line (Some row) ++ others (rows_with last (Some row)))
-      ≡ result_err (and_then (with_next_row rows line (Some row)) after)
+      first_line (bad_row_in last statement (Some row) ++ others (rows_with last (Some row)))
+      ≡ result_err (and_then (with_next_row rows statement.0 (Some row)) after)
   first-of-row row true is =
       let follows : may_follow rows row ≡ true = ap (λ l. is_behind l row) same ∙ is in
       rw (is, follows)
@@ -79,8 +79,8 @@ module _ (last : LastRows) (rows : List NodeRef) (same : last_of rows ≡ last.l
       rw (is, follows) refl
 
   first-of-line : (row : Option NodeRef) →
-      first_line (bad_row_in last line row ++ others (rows_with last row))
-      ≡ result_err (and_then (with_next_row rows line row) after)
+      first_line (bad_row_in last statement row ++ others (rows_with last row))
+      ≡ result_err (and_then (with_next_row rows statement.0 row) after)
   first-of-line None = refl
   first-of-line (Some row) = first-of-row row (is_behind last.last row) refl
 
@@ -89,7 +89,7 @@ first-row : (last : LastRows) (rows : List NodeRef) (statements : List (ℕ × L
     first_line (bad_rows_in last statements) ≡ result_err (try_fold with_statement rows statements)
 first-row last rows [] same = refl
 first-row last rows (statement ∷ others) same =
-    first-of-line last rows same statement.0 (λ l. bad_rows_in l others)
+    first-of-line last rows same statement (λ l. bad_rows_in l others)
     (λ rs. try_fold with_statement rs others) (λ l rs. first-row l rs others) (row_in statement.1)
 
 first-among : (statements : List (ℕ × List (List ℕ)))

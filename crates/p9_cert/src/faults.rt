@@ -3,13 +3,15 @@
 ghost use Rattle.std.specs.Prelude.{◌≡◌, ◌++◌, IfOk, OnOk, map, option_map, slice_get};
 ghost use Rattle.std.specs.Result.{result_err};
 ghost use Rattle.p9_base.specs.Statement.{statement_view};
-ghost use Rattle.p9_cert.specs.Faults.{bad_head_in, bad_lines_among, bad_lines_in, bad_row_in};
-ghost use Rattle.p9_cert.specs.Faults.{bad_rows_in, is_behind, no_rows, rows_with};
+ghost use Rattle.p9_cert.specs.Faults.{bad_head_in, bad_head_word, bad_lines_among, bad_lines_in};
+ghost use Rattle.p9_cert.specs.Faults.{bad_row_in, bad_row_word, bad_rows_in, bad_word, is_behind};
+ghost use Rattle.p9_cert.specs.Faults.{low_word, no_rows, rows_with};
 ghost use Rattle.p9_cert.specs.Text.{certificate_of};
 
 use crate::read::{is_head, row_in};
 use crate::rows::is_below;
-use p9_base::{NoMemory, NodeRef, Statement, statements};
+use p9_base::{NoMemory, NodeRef, SERVERS_MAX, Statement, number, statements};
+use p9_tree::NEXT_MAX;
 use std::alloc::Allocator;
 
 /// What is wrong with a line of a certificate.
@@ -38,6 +40,9 @@ pub struct BadLine {
     pub line: u64,
     /// What is wrong with it.
     pub kind: LineFault,
+    /// The place of the word that is wrong, among those of the line, from 0. Where a word is missing,
+    /// that is the place behind the last one.
+    pub word: usize,
 }
 
 // The last row that is read, and the one before it.
@@ -78,6 +83,7 @@ fn push_bad_lines<A: Allocator, B: Allocator>(
         found.push(BadLine {
             line: 1,
             kind: LineFault::First,
+            word: 0,
         })?;
         return Ok(());
     };
@@ -93,10 +99,12 @@ fn push_bad_head<A: Allocator, B: Allocator>(
     ensures { OnOk result
         (found.new.items ≡ found.old.items ++ bad_head_in (statement_view head.now)) }
 {
-    if !is_head(head.words.as_slice()) {
+    let words = head.words.as_slice();
+    if !is_head(words) {
         found.push(BadLine {
             line: head.line,
             kind: LineFault::First,
+            word: bad_head_word(words),
         })?;
     }
     Ok(())
@@ -116,28 +124,79 @@ fn push_bad_rows<A: Allocator, B: Allocator>(
     };
     for statement in statements {
         let row = row_in(statement.words.as_slice());
-        push_bad_row(found, rows, statement.line, row)?;
+        push_bad_row(found, rows, statement, row)?;
         rows = rows.with(row);
     }
     Ok(())
 }
 
-// Adds a line behind these rows, if it says no row, or one that does not rise.
-fn push_bad_row<A: Allocator>(
+// Adds a statement behind these rows, if it says no row, or one that does not rise.
+fn push_bad_row<A: Allocator, B: Allocator>(
     found: &mut Vec<BadLine, A>,
     rows: LastRows,
-    line: u64,
+    statement: &Statement<'_, B>,
     row: Option<NodeRef>,
 ) -> Result<(), NoMemory>
-    ensures { OnOk result (found.new.items ≡ found.old.items ++ bad_row_in rows line row) }
+    ensures { OnOk result (found.new.items
+        ≡ found.old.items ++ bad_row_in rows (statement_view statement.now) row) }
 {
     if !row.is_some_and(|row| is_behind(rows.last, row)) {
         found.push(BadLine {
-            line,
+            line: statement.line,
             kind: LineFault::Row,
+            word: bad_word(rows, statement.words.as_slice(), row),
         })?;
     }
     Ok(())
+}
+
+// Which word is wrong of a line that says no row, or one that does not rise.
+fn bad_word(rows: LastRows, words: &[&str], row: Option<NodeRef>) -> usize
+    ensures { result ≡ bad_word rows (map (λ word. word.now) words.now) row }
+{
+    match row {
+        Some(row) => low_word(rows, row),
+        None => bad_row_word(words),
+    }
+}
+
+// Which word of `cert 1` is wrong.
+fn bad_head_word(words: &[&str]) -> usize
+    ensures { result ≡ bad_head_word (map (λ word. word.now) words.now) }
+{
+    match words {
+        [verb, ..] if *verb != "cert" => 0,
+        [_, version, ..] if *version != "1" => 1,
+        [_, _, ..] => 2,
+        [_] => 1,
+        [] => 0,
+    }
+}
+
+// Which word of `dir SERVER NUMBER` is wrong.
+fn bad_row_word(words: &[&str]) -> usize
+    ensures { result ≡ bad_row_word (map (λ word. word.now) words.now) }
+{
+    match words {
+        [verb, ..] if *verb != "dir" => 0,
+        [_, server, ..] if number(server, SERVERS_MAX as u64).is_none() => 1,
+        [_, _, node, ..] if number(node, NEXT_MAX).is_none() => 2,
+        [_, _, _, ..] => 3,
+        [_, _] => 2,
+        [_] => 1,
+        [] => 0,
+    }
+}
+
+// Which word is wrong of a row that does not rise behind these.
+fn low_word(rows: LastRows, row: NodeRef) -> usize
+    ensures { result ≡ low_word rows row }
+{
+    if rows.last.is_some_and(|last| row.server < last.server) {
+        1
+    } else {
+        2
+    }
 }
 
 impl LastRows {

@@ -11,12 +11,11 @@ use crate::column::{column_of, width};
 use crate::free::{into_first_line, push_free};
 use crate::member::{Found, fault_words, hidden_dir, push_why};
 use crate::passing::passing_words;
-use crate::right::{TO_USE, has};
 use crate::source::Source;
 use crate::teller::{Teller, add, push, push_blanks, shown_path};
 use crate::walker::{steps_by, walker_of};
 use p9_base::{NoMemory, NodeRef, User};
-use p9_cert::MemberFault;
+use p9_cert::{Classes, MemberFault};
 use p9_judge::{Breach, BreachKind, Step};
 use p9_shown::shown;
 use p9_space::ROOT_PLACE;
@@ -237,7 +236,7 @@ fn mend<T: Tree>(world: &World<T>, breach: &Breach<T::Alloc>) -> &'static str {
 // Whether a node has bits for others.
 fn is_open_to_others<T: Tree>(world: &World<T>, at: NodeRef) -> bool {
     match world.forest.node(at) {
-        Some(node) => has(node.mode().permissions.others, TO_USE),
+        Some(node) => Classes::to_use(node).others,
         None => false,
     }
 }

@@ -7,13 +7,16 @@ ghost use Rattle.p9_explain.specs.Change.{IsChangeTold, IsDeedTold, IsVerb};
 use crate::breach::MEND_DIRECTORY;
 use crate::free::first_line;
 use crate::member::dir_of;
-use crate::right::{Alteration, TO_USE, altering_class, class_of};
+use crate::passing::right_words;
+use crate::right::{TO_USE, push_class, who_of};
 use crate::source::{Source, numbered_source};
-use crate::teller::{Teller, push, shown_path};
+use crate::teller::{Teller, add, push, shown_path};
 use p9_base::{NoMemory, NodeRef, User};
 use p9_fixed::{Change, ChangeKind, changer};
 use p9_prepared::{Stop, name_space_of};
+use p9_right::{altering_right, class_of};
 use p9_shown::shown;
+use p9_space::{TO_WRITE, may};
 use p9_tree::Tree;
 use p9_world::World;
 
@@ -101,24 +104,18 @@ fn verb<T: Tree>(world: &World<T>, change: &Change, user: &User) -> &'static str
     ensures { IsVerb change.now.kind result.now }
 {
     match change.kind {
-        ChangeKind::Alterable => match alteration(world, change.member, user) {
-            Alteration::Content => " may write ",
-            Alteration::Mode => " may change the mode of ",
-        },
+        ChangeKind::Alterable if may_write(world, change.member, user) => " may write ",
+        ChangeKind::Alterable => " may change the mode of ",
         ChangeKind::Removable => " may remove ",
         ChangeKind::Exclusive => " may open ",
     }
 }
 
-// What a user changes of a node that he may write or rules.
-fn alteration<T: Tree>(world: &World<T>, at: NodeRef, user: &User) -> Alteration {
-    let class = match world.forest.node(at) {
-        Some(node) => altering_class(world, user, node),
-        None => None,
-    };
-    match class {
-        Some((_, alteration)) => alteration,
-        None => Alteration::Mode,
+// Whether a user may write a node.
+fn may_write<T: Tree>(world: &World<T>, at: NodeRef, user: &User) -> bool {
+    match world.forest.node(at) {
+        Some(node) => may(who_of(world, user), node, TO_WRITE),
+        None => false,
     }
 }
 
@@ -149,10 +146,8 @@ fn push_alteration<T: Tree>(
     push(text, " (")?;
     teller.made(text, at)?;
     if let Some(node) = world.forest.node(at) {
-        if let Some((class, alteration)) = altering_class(world, user, node) {
-            push(text, ": ")?;
-            class.push(text, node.gid())?;
-            push(text, alteration.deed())?;
+        if let Some(right) = altering_right(who_of(world, user), node) {
+            add(text, right_words(*text.allocator(), right, node.gid())?)?;
         }
     }
     push(text, ")")
@@ -184,9 +179,9 @@ fn push_opening<T: Tree>(
     push(text, ", of exclusive use (")?;
     teller.made(text, at)?;
     if let Some(node) = world.forest.node(at) {
-        if let Some(class) = class_of(world, user, node, TO_USE) {
+        if let Some(class) = class_of(who_of(world, user), node, TO_USE) {
             push(text, ": ")?;
-            class.push(text, node.gid())?;
+            push_class(text, class, node.gid())?;
             push(text, " may open it")?;
         }
     }

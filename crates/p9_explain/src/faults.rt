@@ -14,13 +14,13 @@ const FAULTS_MAX: usize = 100;
 // A word that has more bytes is not shown.
 const WORD_MAX: usize = 64;
 
-// A bad line of a section: its number there, what is wrong, the place of the word that is wrong where
-// that is told, and what was expected.
+// A bad line of a section: its number there, what is wrong, the place of the word that is wrong, and
+// what was expected.
 #[derive(Clone, Copy)]
 struct Fault {
     line: u64,
     what: &'static str,
-    word: Option<usize>,
+    word: usize,
     expected: &'static str,
 }
 
@@ -97,9 +97,9 @@ fn push_fault<A: Allocator + Copy>(
     }
 }
 
-// The word that is wrong, if it is told; one that is long is left out.
+// The word that is wrong, unless a word is missing; one that is long is left out.
 fn word_of<'a>(fault: &Fault, words: &[&'a str]) -> Option<&'a str> {
-    let word = words.get(fault.word?).copied()?;
+    let word = words.get(fault.word).copied()?;
     if word.len() > WORD_MAX {
         return Some("..");
     }
@@ -137,7 +137,7 @@ fn in_world<T: Tree>(alloc: T::Alloc, text: &str) -> Result<Vec<Fault, T::Alloc>
         faults.push(Fault {
             line: bad.line,
             what: bad.kind.text(),
-            word: Some(bad.word),
+            word: bad.word,
             expected: bad.expected,
         })?;
     }
@@ -151,7 +151,7 @@ fn in_namespace<A: Allocator + Copy>(alloc: A, text: &str) -> Result<Vec<Fault, 
         faults.push(Fault {
             line: bad.line,
             what: bad.kind.text(),
-            word: Some(bad.word),
+            word: bad.word,
             expected: bad.expected,
         })?;
     }
@@ -165,7 +165,7 @@ fn in_certificate<A: Allocator + Copy>(alloc: A, text: &str) -> Result<Vec<Fault
         faults.push(Fault {
             line: bad.line,
             what: "bad line",
-            word: None,
+            word: bad.word,
             expected: bad.kind.expected(),
         })?;
     }
@@ -175,11 +175,11 @@ fn in_certificate<A: Allocator + Copy>(alloc: A, text: &str) -> Result<Vec<Fault
 // The bad lines of a script.
 fn in_script<A: Allocator + Copy>(alloc: A, text: &str) -> Result<Vec<Fault, A>, NoMemory> {
     let mut faults = Vec::new(alloc);
-    for line in &bad_events(alloc, text)? {
+    for bad in &bad_events(alloc, text)? {
         faults.push(Fault {
-            line: *line,
+            line: bad.line,
             what: "bad line",
-            word: None,
+            word: bad.word,
             expected: EVENT_EXPECTED,
         })?;
     }

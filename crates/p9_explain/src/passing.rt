@@ -4,10 +4,10 @@ ghost use Rattle.std.specs.Prelude.{◌≡◌, IfOk};
 ghost use Rattle.std.specs.String.{string_bytes};
 ghost use Rattle.p9_explain.specs.Passing.{passing_text, right_text};
 
+use crate::right::who_of;
 use p9_base::{NoMemory, NodeRef, User};
 use p9_right::{Right, right_of};
 use p9_shown::shown;
-use p9_space::Who;
 use p9_tree::Tree;
 use p9_world::World;
 use std::alloc::Allocator;
@@ -22,18 +22,17 @@ pub(crate) fn passing_words<T: Tree>(
     ensures { IfOk result (λ text.
         string_bytes text ≡ passing_text world.now user.now at) }
 {
-    let groups = &world.groups;
     let Some(node) = world.forest.node(at) else {
         return Ok(String::new(alloc));
     };
-    match right_of(Who { user, groups }, node) {
+    match right_of(who_of(world, user), node) {
         Some(right) => right_words(alloc, right, node.gid()),
         None => Ok(String::new(alloc)),
     }
 }
 
-// A right to a directory of this group, in words after a colon.
-fn right_words<A: Allocator + Copy>(
+/// A right to a node of this group, in words after a colon.
+pub(crate) fn right_words<A: Allocator + Copy>(
     alloc: A,
     right: Right,
     group: &User,
@@ -41,11 +40,7 @@ fn right_words<A: Allocator + Copy>(
     ensures { IfOk result (λ text. string_bytes text ≡ right_text right group.now) }
 {
     let group = shown(alloc, group.as_str())?;
-    Ok(match right {
-        Right::OthersSearch => String::from_str(alloc, ": others may search")?,
-        Right::OwnerSearches => String::from_str(alloc, ": its owner may search")?,
-        Right::MemberSearches => format!(in alloc; ": a member of {group} may search")?,
-        Right::OwnerRules => String::from_str(alloc, ": its owner may change its mode")?,
-        Right::LeaderRules => format!(in alloc; ": the leader of {group} may change its mode")?,
-    })
+    let mut text = String::from_str(alloc, ": ")?;
+    right.push(group.as_str(), &mut text)?;
+    Ok(text)
 }

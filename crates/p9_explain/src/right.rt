@@ -1,9 +1,17 @@
 //! By which right a user may do something with a node.
 
-use crate::teller::Teller;
+ghost use Rattle.std.specs.Prelude.{◌≡◌, ◌++◌, OnOk};
+ghost use Rattle.std.specs.String.{string_bytes};
+ghost use Rattle.p9_explain.specs.Passing.{holds};
+ghost use Rattle.p9_right.specs.Class.{class_words};
+ghost use Rattle.p9_shown.specs.Text.{shown_text};
+ghost use Rattle.p9_space.specs.Rights.{who_view};
+
+use crate::teller::{Teller, push};
 use p9_base::{NoMemory, NodeRef, Rights, User};
-use p9_shown::AsShown;
-use p9_space::{TO_EXECUTE, TO_READ, TO_WRITE, Who, may};
+use p9_right::{Class, Deed, class_of, ruling_class};
+use p9_shown::{AsShown, shown};
+use p9_space::{TO_EXECUTE, TO_READ, TO_WRITE, Who, may, rules};
 use p9_tree::{Node, Tree};
 use p9_world::World;
 use std::alloc::Allocator;
@@ -22,105 +30,32 @@ pub(crate) const NO_RIGHTS: Rights = Rights {
     execute: false,
 };
 
-/// As what a user has a right.
-#[derive(Clone, Copy, PartialEq, Eq)]
-pub(crate) enum Class {
-    Other,
-    Owner,
-    Member,
-    Leader,
-}
-
-impl Class {
-    /// Adds the class to a text, for a node of a group: `others`, `its owner`, `a member of GROUP`,
-    /// `the leader of GROUP`.
-    pub fn push<A: Allocator + Copy>(
-        self,
-        text: &mut String<A>,
-        group: &User,
-    ) -> Result<(), NoMemory> {
-        let group = AsShown(group.as_str());
-        match self {
-            Class::Other => text.push_str("others")?,
-            Class::Owner => text.push_str("its owner")?,
-            Class::Member => write!(text, "a member of {group}")?,
-            Class::Leader => write!(text, "the leader of {group}")?,
-        }
-        Ok(())
+/// The user, and the groups that are listed.
+pub(crate) fn who_of<'a, T: Tree>(world: &'a World<T>, user: &'a User) -> Who<'a, T::Alloc>
+    ensures { who_view result ≡ record { user = user.now; groups = world.now.groups } }
+{
+    Who {
+        user,
+        groups: &world.groups,
     }
 }
 
-/// What a user changes of a node: what is in it, or its mode, so that he may come to write it.
-#[derive(Clone, Copy)]
-pub(crate) enum Alteration {
-    Content,
-    Mode,
+/// Adds a class to a text, for a node of this group: `others`, `its owner`, `a member of GROUP`, `the
+/// leader of GROUP`.
+pub(crate) fn push_class<A: Allocator + Copy>(
+    text: &mut String<A>,
+    class: Class,
+    group: &User,
+) -> Result<(), NoMemory>
+    ensures { OnOk result (string_bytes text.new
+        ≡ string_bytes text.old ++ class_words class (shown_text group.now)) }
+{
+    let group = shown(*text.allocator(), group.as_str())?;
+    class.push(group.as_str(), text)?;
+    Ok(())
 }
 
-impl Alteration {
-    /// What a class of users may do, after its words.
-    pub fn deed(self) -> &'static str {
-        match self {
-            Alteration::Content => " may write",
-            Alteration::Mode => " may change its mode",
-        }
-    }
-}
-
-/// As what the user has one of these rights of the node, by its bits.
-pub(crate) fn class_of<T: Tree>(
-    world: &World<T>,
-    user: &User,
-    node: &Node<T::Alloc>,
-    wanted: Rights,
-) -> Option<Class> {
-    let permissions = node.mode().permissions;
-    if has(permissions.others, wanted) {
-        Some(Class::Other)
-    } else if node.uid() == user && has(permissions.owner, wanted) {
-        Some(Class::Owner)
-    } else if has(permissions.group, wanted) && world.groups.member(user, node.gid()) {
-        Some(Class::Member)
-    } else {
-        None
-    }
-}
-
-/// Whether the rights have one that is wanted.
-pub(crate) fn has(rights: Rights, wanted: Rights) -> bool {
-    (wanted.read && rights.read)
-        || (wanted.write && rights.write)
-        || (wanted.execute && rights.execute)
-}
-
-/// As what the user rules the node.
-pub(crate) fn ruling_class<T: Tree>(
-    world: &World<T>,
-    user: &User,
-    node: &Node<T::Alloc>,
-) -> Option<Class> {
-    if node.uid() == user {
-        Some(Class::Owner)
-    } else if world.groups.leads(user, node.gid()) {
-        Some(Class::Leader)
-    } else {
-        None
-    }
-}
-
-/// As what a user writes a node or rules it, and what that is.
-pub(crate) fn altering_class<T: Tree>(
-    world: &World<T>,
-    user: &User,
-    node: &Node<T::Alloc>,
-) -> Option<(Class, Alteration)> {
-    match class_of(world, user, node, TO_WRITE) {
-        Some(class) => Some((class, Alteration::Content)),
-        None => Some((ruling_class(world, user, node)?, Alteration::Mode)),
-    }
-}
-
-// A user who has a right of a node: as what, and what for.
+// A user who has a right of a node: as whom, and what he may do, in words.
 #[derive(Clone, Copy)]
 struct Holder {
     user: User,
@@ -143,7 +78,7 @@ pub(crate) fn push_right<T: Tree>(
         return Ok(());
     };
     let asked = match walker {
-        Some(user) => held_by(world, &user, node, wanted),
+        Some(user) => held_by(who_of(world, &user), node, wanted),
         None => None,
     };
     let holder = match asked {
@@ -157,28 +92,47 @@ pub(crate) fn push_right<T: Tree>(
 }
 
 /// Whether a user has one of these rights of a node, or rules it.
-pub(crate) fn holds<T: Tree>(world: &World<T>, user: &User, at: NodeRef, wanted: Rights) -> bool {
+pub(crate) fn holds<T: Tree>(world: &World<T>, user: &User, at: NodeRef, wanted: Rights) -> bool
+    ensures { result ≡ holds world.now user.now at wanted }
+{
+    let who = who_of(world, user);
     match world.forest.node(at) {
-        Some(node) => held_by(world, user, node, wanted).is_some(),
+        Some(node) => class_of(who, node, wanted).is_some() || rules(who, node),
         None => false,
     }
 }
 
 // The right of a user of a node: one of these, or else that he rules it.
-fn held_by<T: Tree>(
-    world: &World<T>,
-    user: &User,
-    node: &Node<T::Alloc>,
+fn held_by<A: Allocator, B: Allocator + Copy>(
+    who: Who<'_, B>,
+    node: &Node<A>,
     wanted: Rights,
 ) -> Option<Holder> {
-    let (class, deeds) = match class_of(world, user, node, wanted) {
-        Some(class) => (class, deeds(world, user, node)),
-        None => (ruling_class(world, user, node)?, "change its mode"),
-    };
+    match used_by(who, node, wanted) {
+        Some(holder) => Some(holder),
+        None => ruled_by(who, node),
+    }
+}
+
+// The right of a user of a node, if he has one of these.
+fn used_by<A: Allocator, B: Allocator + Copy>(
+    who: Who<'_, B>,
+    node: &Node<A>,
+    wanted: Rights,
+) -> Option<Holder> {
     Some(Holder {
-        user: *user,
-        class,
-        deeds,
+        user: *who.user,
+        class: class_of(who, node, wanted)?,
+        deeds: deeds(who, node),
+    })
+}
+
+// The right of a user of a node, if he rules it.
+fn ruled_by<A: Allocator, B: Allocator + Copy>(who: Who<'_, B>, node: &Node<A>) -> Option<Holder> {
+    Some(Holder {
+        user: *who.user,
+        class: ruling_class(who, node)?,
+        deeds: Deed::Rule.words(),
     })
 }
 
@@ -188,25 +142,22 @@ fn say_holder<A: Allocator + Copy>(
     holder: &Holder,
     group: &User,
 ) -> Result<(), NoMemory> {
-    if holder.class == Class::Other {
-        write!(text, "others may {}", holder.deeds)?;
-        return Ok(());
+    let is_named = holder.class != Class::Others;
+    if is_named {
+        write!(text, "{}, ", AsShown(holder.user.as_str()))?;
     }
-    write!(text, "{}, ", AsShown(holder.user.as_str()))?;
-    holder.class.push(text, group)?;
-    write!(text, ", may {}", holder.deeds)?;
-    Ok(())
+    push_class(text, holder.class, group)?;
+    if is_named {
+        push(text, ",")?;
+    }
+    push(text, holder.deeds)
 }
 
 // The first listed user who has one of these rights of a node, or else the first who rules it.
 fn holder_of<T: Tree>(world: &World<T>, node: &Node<T::Alloc>, wanted: Rights) -> Option<Holder> {
     for user in world.users.as_slice() {
-        if let Some(class) = class_of(world, user, node, wanted) {
-            return Some(Holder {
-                user: *user,
-                class,
-                deeds: deeds(world, user, node),
-            });
+        if let Some(holder) = used_by(who_of(world, user), node, wanted) {
+            return Some(holder);
         }
     }
     ruler_of(world, node)
@@ -215,33 +166,25 @@ fn holder_of<T: Tree>(world: &World<T>, node: &Node<T::Alloc>, wanted: Rights) -
 // The first listed user who rules a node.
 fn ruler_of<T: Tree>(world: &World<T>, node: &Node<T::Alloc>) -> Option<Holder> {
     for user in world.users.as_slice() {
-        if let Some(class) = ruling_class(world, user, node) {
-            return Some(Holder {
-                user: *user,
-                class,
-                deeds: "change its mode",
-            });
+        if let Some(holder) = ruled_by(who_of(world, user), node) {
+            return Some(holder);
         }
     }
     None
 }
 
 // Which of the three the user may do.
-fn deeds<T: Tree>(world: &World<T>, user: &User, node: &Node<T::Alloc>) -> &'static str {
-    let who = Who {
-        user,
-        groups: &world.groups,
-    };
+fn deeds<A: Allocator, B: Allocator + Copy>(who: Who<'_, B>, node: &Node<A>) -> &'static str {
     let to_read = may(who, node, TO_READ);
     let to_write = may(who, node, TO_WRITE);
     let to_search = may(who, node, TO_EXECUTE);
     match (to_read, to_write, to_search) {
-        (true, true, true) => "read, write and search it",
-        (true, true, false) => "read and write it",
-        (true, false, true) => "read and search it",
-        (true, false, false) => "read it",
-        (false, true, true) => "write and search it",
-        (false, true, false) => "write it",
-        (false, false, _) => "search it",
+        (true, true, true) => " may read, write and search it",
+        (true, true, false) => " may read and write it",
+        (true, false, true) => " may read and search it",
+        (true, false, false) => " may read it",
+        (false, true, true) => " may write and search it",
+        (false, true, false) => " may write it",
+        (false, false, _) => " may search it",
     }
 }

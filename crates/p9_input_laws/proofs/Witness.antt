@@ -24,7 +24,7 @@ use Rattle.p9_tree.specs.Inside.{is_barred, is_hidden, is_inside, outer}
 use Rattle.p9_tree.specs.Node.{Node, with_owner}
 use Rattle.p9_tree.specs.Server.{root_node}
 use Rattle.p9_space.specs.Table.{MountRow}
-use Rattle.p9_world.specs.Entry.{NodeLine, node_of_line}
+use Rattle.p9_world.specs.Entry.{NewNode, node_of_line}
 use Rattle.p9_world.specs.Mode.{dir_mode}
 use Rattle.p9_world.specs.Read.{world_of}
 use Rattle.p9_world.specs.World.{World}
@@ -53,7 +53,7 @@ use Rattle.p9_input_laws.proofs.Inputs.{prepared-well}
 -- What is prepared.
 
 -- what sys has
-abbrev of_sys : Mode → List ℕ → NodeLine
+abbrev of_sys : Mode → List ℕ → NewNode
 of_sys mode bytes = record { mode = mode; uid = codes "sys"; gid = codes "sys"; bytes = bytes }
 
 abbrev root : Node

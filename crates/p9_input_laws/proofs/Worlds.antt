@@ -35,7 +35,7 @@ use Rattle.p9_tree.proofs.Changed.{KeepsSound, WellFormed-changed, keeps-with_ow
 use Rattle.p9_tree.proofs.Changed.{sound-with_owner}
 use Rattle.p9_tree.proofs.Rooted.{WellFormed-rooted}
 use Rattle.p9_world.specs.declared.error.LineFault.{LineFault}
-use Rattle.p9_world.specs.Entry.{NodeLine, are_users, bytes_in, dir_line, file_line, in_last_server}
+use Rattle.p9_world.specs.Entry.{NewNode, are_users, bytes_in, dir_line, file_line, in_last_server}
 use Rattle.p9_world.specs.Entry.{last_number, node_of_line, with_dir, with_entry}
 use Rattle.p9_world.specs.Group.{are_distinct, group_line}
 use Rattle.p9_world.specs.Hide.{hide_line, is_hidden_by}
@@ -185,7 +185,7 @@ users-are uid gid all =
     let parts = and_parts (is_user uid) (is_user gid) all in
     record { owner = parts.0; group = parts.1 }
 
-entry-kept : (name : Component) (names : List Component) (entry : NodeLine) (s new : Server)
+entry-kept : (name : Component) (names : List Component) (entry : NewNode) (s new : Server)
     → WellFormed s → is_name name ≡ true → AreUsers entry.uid entry.gid
     → length entry.bytes ≤ file_max → (IsTrue (is_dir_mode entry.mode) → entry.bytes ≡ [])
     → with_entry name names entry s ≡ Ok new → IsKept s new

@@ -3,7 +3,7 @@ use Rattle.std.specs.Prelude.{◌≡◌, ℕ, ◌-◌, ◌==◌, Bool, List, [],
 use Rattle.std.specs.Prelude.{encode_utf8, encode_utf8_all, find, length, nat_le, take, if◌then◌else◌}
 use Rattle.std.specs.Fmt.{decimal}
 use Rattle.std.specs.List.{AllZip}
-use Rattle.std.specs.Option.{option_map_or}
+use Rattle.std.specs.Option.{option_and_then, option_map_or}
 use Rattle.std.specs.Str.{chars}
 use Rattle.std.specs.String.{string_bytes}
 use Rattle.p9_base.specs.declared.node_ref.NodeRef.{NodeRef}
@@ -11,12 +11,12 @@ use Rattle.p9_base.specs.NodeRef.{same_node}
 use Rattle.p9_tree.specs.Forest.{node_of}
 use Rattle.p9_tree.specs.Node.{Node, is_dir}
 use Rattle.p9_world.specs.World.{World}
-use Rattle.p9_space.specs.Rights.{Who}
 use Rattle.p9_judge.specs.declared.breach.Step.{Step}
 use Rattle.p9_prepared.specs.Path.{server_name}
 use Rattle.p9_shown.specs.Text.{shown_text}
 use Rattle.p9_map.specs.Fault.{fault_note}
 use Rattle.p9_right.specs.Right.{right_of, right_words}
+use Rattle.p9_right.specs.declared.right.Right.{Right}
 use Rattle.p9_map.specs.Walk.{Walk}
 use Rattle.p9_map.specs.declared.label.Label.{Label}
 
@@ -57,15 +57,16 @@ left_out_text count has_dirs =
     else codes " (" ++ decimal count ++ codes " files)"
 
 -- by which right a step is made
-abbrev pub words_of : World → Step → List ℕ
-words_of world step =
-    let who : Who = record { user = step.user; groups = world.groups } in
-    option_map_or (λ n. option_map_or right_words (right_of who n) [])
-    (node_of step.member world.forest) []
+abbrev pub step_right : World → Step → Option Right
+step_right world step =
+    option_and_then (right_of (record { user = step.user; groups = world.groups }))
+    (node_of step.member world.forest)
 
 -- who makes a step, and by which right
 abbrev pub right_note : World → Step → List ℕ
-right_note world step = shown_text step.user ++ codes ": " ++ words_of world step
+right_note world step =
+    shown_text step.user ++ codes ": "
+    ++ option_map_or (λ right. right_words right (codes "its group")) (step_right world step) []
 
 -- what is said of a node on the walk of a breach: who passes it, and by which right; or what is wrong
 -- with it

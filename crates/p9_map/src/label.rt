@@ -7,8 +7,8 @@ ghost use Rattle.std.specs.String.{string_bytes};
 ghost use Rattle.p9_base.specs.NodeRef.{same_node};
 ghost use Rattle.p9_shown.specs.Text.{shown_text};
 ghost use Rattle.p9_map.specs.Label.{AreLabels, IsLabel, cut_text, label_texts, left_out_text};
-ghost use Rattle.p9_map.specs.Label.{name_max, name_text, note_text, right_note, walk_note};
-ghost use Rattle.p9_map.specs.Label.{words_of};
+ghost use Rattle.p9_map.specs.Label.{name_max, name_text, note_text, right_note, step_right};
+ghost use Rattle.p9_map.specs.Label.{walk_note};
 ghost use Rattle.p9_map.specs.Walk.{walk_in, walk_of};
 
 use crate::fault::fault_note;
@@ -17,7 +17,7 @@ use crate::scene::Scene;
 use p9_base::{NoMemory, NodeRef};
 use p9_judge::{Breach, Step};
 use p9_prepared::server_name;
-use p9_right::right_of;
+use p9_right::{Right, right_of};
 use p9_shown::shown;
 use p9_space::Who;
 use p9_tree::{Forest, Tree};
@@ -257,23 +257,19 @@ fn right_note<T: Tree>(
 {
     let mut note = shown(alloc, step.user.as_str())?;
     note.push_str(": ")?;
-    note.push_str(words_of(world, step))?;
+    if let Some(right) = step_right(world, step) {
+        right.push("its group", &mut note)?;
+    }
     Ok(note)
 }
 
 // By which right a step is made.
-fn words_of<T: Tree>(world: &World<T>, step: &Step) -> &'static str
-    ensures { result.now ≡ words_of world.now step.now }
+fn step_right<T: Tree>(world: &World<T>, step: &Step) -> Option<Right>
+    ensures { result ≡ step_right world.now step.now }
 {
     let who = Who {
         user: &step.user,
         groups: &world.groups,
     };
-    let Some(dir) = world.forest.node(step.member) else {
-        return "";
-    };
-    match right_of(who, dir) {
-        Some(right) => right.words(),
-        None => "",
-    }
+    right_of(who, world.forest.node(step.member)?)
 }

@@ -1,11 +1,17 @@
 -- What an input comes to, by its parts.
-use Rattle.std.proofs.Common.{◌≡◌, ℕ, List, Result, Ok, refl}
-use Rattle.p9_base.specs.Results.{and_then}
+use Rattle.std.proofs.Common.{◌≡◌, ◌∙◌, ℕ, List, Result, Ok, Err, ap, refl, sym, true}
+use Rattle.std.specs.Str.{is_utf8}
+use Rattle.p9_base.specs.declared.stop.Stop.{Stop}
+use Rattle.p9_base.specs.declared.stop.Stop.TheVariants.{Refused, NoMemory}
+use Rattle.p9_base.specs.Results.{and_then, need}
 use Rattle.p9_nsline.specs.Space.{Report}
-use Rattle.p9_prepared.specs.Bundle.{Texts}
-use Rattle.p9_prepared.specs.NameSpace.{NameSpace}
+use Rattle.p9_prepared.specs.Bundle.{Texts, bundle_of}
+use Rattle.p9_prepared.specs.NameSpace.{NameSpace, space_in}
 use Rattle.p9_prepared.specs.Prepared.{Rejected, opened, space_of, space_with, with_reports}
+use Rattle.p9_prepared.specs.Refusal.{IsStop}
+use Rattle.p9_prepared.specs.Statements.{SameStatements}
 use Rattle.p9_prepared.specs.declared.refusal.Refusal.{Refusal}
+use Rattle.p9_prepared.proofs.Statements.{space_in-same}
 
 -- a part that is found is followed by the rest
 pub part-found : {X Y : Type 0} (reports : List Report) (found : Result X Refusal)
@@ -17,3 +23,26 @@ part-found reports found rest value is = rw is refl
 pub opened-found : (input : List ℕ) (found : Texts × NameSpace) → opened input ≡ Ok found
     → space_of input ≡ space_with found.0 found.1
 opened-found input found is = rw is refl
+
+-- an input is opened by what its sections say
+module _ (input : List ℕ) (seen texts : Texts) (utf8 : is_utf8 input ≡ true)
+    (is : bundle_of input ≡ Ok texts) (same : SameStatements seen texts) where
+  opened-by : (found : Result NameSpace Refusal) → space_in seen.world seen.ns ≡ found →
+      opened input
+      ≡ and_then found
+      (λ space. let both : Result (Texts × NameSpace) Refusal = Ok (texts, space) in both)
+  unfolding need
+  opened-by found space =
+      rw (utf8, is)
+      (ap (λ made. and_then made
+      (λ space. let both : Result (Texts × NameSpace) Refusal = Ok (texts, space) in both))
+      (space_in-same texts.world seen.world texts.ns seen.ns (sym same.world) (sym same.ns) ∙ space))
+
+  pub opened-ok : (space : NameSpace) → space_in seen.world seen.ns ≡ Ok space
+      → opened input ≡ Ok (texts, space)
+  opened-ok space found = opened-by (Ok space) found
+
+  pub opened-stop : (stop : Stop Refusal) → IsStop (space_in seen.world seen.ns) stop
+      → IsStop (opened input) stop
+  opened-stop NoMemory stopped = tt
+  opened-stop (Refused refusal) stopped = opened-by (Err refusal) stopped

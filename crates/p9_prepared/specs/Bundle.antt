@@ -1,15 +1,15 @@
 -- Bundles: the program's input, in sections.
-use Rattle.std.specs.Prelude.{◌≡◌, ℕ, nat_eq, List, [], ◌∷◌, ◌++◌, Option, Some}
+use Rattle.std.specs.Prelude.{◌≡◌, ℕ, ◌-◌, ◌⊎◌, nat_eq, List, [], ◌∷◌, ◌++◌, Option, Some, length, true}
 use Rattle.std.specs.Prelude.{None, Result, Ok, Err, codes, if◌then◌else◌}
 use Rattle.std.specs.List.{enumerate_from, list_all, starts_with}
 use Rattle.std.specs.Option.{option_map}
-use Rattle.std.specs.String.{string_bytes}
 use Rattle.p9_base.specs.Line.{is_blank, lines_of}
 use Rattle.p9_base.specs.Results.{and_then, try_fold}
 use Rattle.p9_prepared.specs.Section.{may_follow, section_of}
 use Rattle.p9_prepared.specs.declared.section.Section.{Section}
 use Rattle.p9_prepared.specs.declared.section.Section.TheVariants.{World, Ns, Cert, Script}
 use Rattle.p9_prepared.specs.declared.bundle.Bundle.{Bundle}
+use Rattle.p9_prepared.specs.declared.bundle.Part.{Part}
 use Rattle.p9_prepared.specs.declared.bundle.Reader.{Reader}
 use Rattle.p9_prepared.specs.declared.bundle.BundleError.{BundleError}
 use Rattle.p9_prepared.specs.declared.bundle.BundleError.TheVariants.{BadBundle, NoMemory}
@@ -79,22 +79,127 @@ bundle_of text =
     and_then (try_fold with_numbered_line unread (enumerate_from 1 (lines_of text)))
     (λ reading. Ok reading.texts)
 
--- The code's values, as they are seen.
+-- The parts of an input, which are its sections.
 
--- a bundle, as the texts of its sections
-abbrev pub bundle_view : {A : Type 0} → Bundle A → Texts
+-- the bytes of a part, if it is there
+abbrev pub part_view : Option Part → Option (List ℕ)
+part_view part = option_map (λ part. part.text.now) part
+
+-- a bundle as the bytes of its parts
+abbrev pub bundle_view : Bundle → Texts
 bundle_view bundle = record {
-  world = option_map string_bytes bundle.world;
-  ns = option_map string_bytes bundle.ns;
-  cert = option_map string_bytes bundle.cert;
-  script = option_map string_bytes bundle.script;
+  world = part_view bundle.world;
+  ns = part_view bundle.ns;
+  cert = part_view bundle.cert;
+  script = part_view bundle.script;
 }
 
--- a bundle as far as it is read, in the same way
-abbrev pub reader_view : {A : Type 0} → Reader A → Reading
-reader_view reader = record { texts = bundle_view reader.bundle; last = reader.last }
+-- a part stands in the input, and so many bytes are before it as its place says
+abbrev pub IsIn : List ℕ → Part → Type 0
+IsIn input part =
+    (before : List ℕ) × (after : List ℕ) × (input ≡ before ++ part.text.now ++ after)
+    × (part.start ≡ length before)
+
+-- the text of the lines of a part: the part, or, since each line of a text has a newline, the part
+-- and the newline that the input's last line lacks
+abbrev pub IsTextOf : (part text : List ℕ) → Type 0
+IsTextOf part text = (text ≡ part) ⊎ (text ≡ part ++ 10 ∷ [])
+
+-- a section is there, as a part of the input and as the text of its lines; or it isn't there
+abbrev pub IsPartOf : List ℕ → Option Part → Option (List ℕ) → Type 0
+IsPartOf input None None = Unit {0}
+IsPartOf input (Some part) (Some text) = IsIn input part × IsTextOf part.text.now text
+IsPartOf input part text = ⊥
+
+-- the sections of a bundle are parts of the input, which have these texts
+pub record ArePartsOf (input : List ℕ) (bundle : Bundle) (texts : Texts) : Type 0 where
+  pub world : IsPartOf input bundle.world texts.world
+  pub ns : IsPartOf input bundle.ns texts.ns
+  pub cert : IsPartOf input bundle.cert texts.cert
+  pub script : IsPartOf input bundle.script texts.script
 
 -- an error says that an allocation failed, or which line is the first bad one
 abbrev pub IsBundleFault : {X : Type 0} → Result X ℕ → BundleError → Type 0
 IsBundleFault bundle NoMemory = Unit {0}
 IsBundleFault bundle (BadBundle line) = bundle ≡ Err line
+
+-- A bundle as far as it is read.
+
+-- a part becomes a section
+abbrev pub with_part : Section → Part → Bundle → Bundle
+with_part World part bundle = record bundle { world = Some part }
+with_part Ns part bundle = record bundle { ns = Some part }
+with_part Cert part bundle = record bundle { cert = Some part }
+with_part Script part bundle = record bundle { script = Some part }
+
+-- a text becomes a section's text
+abbrev pub with_text : Section → List ℕ → Texts → Texts
+with_text World text texts = record texts { world = Some text }
+with_text Ns text texts = record texts { ns = Some text }
+with_text Cert text texts = record texts { cert = Some text }
+with_text Script text texts = record texts { script = Some text }
+
+-- the section that was begun last
+abbrev pub last_of : Reader → Option Section
+last_of reader = option_map (λ begun. begun.0) reader.begun
+
+-- what is read, where the sections have these texts so far
+abbrev pub reading_of : Reader → Texts → Reading
+reading_of reader texts = record { texts = texts; last = last_of reader }
+
+-- the part of the section that was begun last has what is left behind its text so far; where no line
+-- is left, it has its text
+abbrev pub IsSoFar : (left : List (List ℕ)) → (rest part text : List ℕ) → Type 0
+IsSoFar [] rest part text = IsTextOf part text
+IsSoFar (line ∷ left) rest part text = part ≡ text ++ rest
+
+-- the sections before are parts, and so is the one that was begun last
+abbrev pub AreSoFar : List ℕ → (left : List (List ℕ)) → List ℕ → Bundle → Option (Section × Part)
+    → Texts → Type 0
+AreSoFar input left rest bundle None texts = ArePartsOf input bundle texts
+AreSoFar input left rest bundle (Some begun) texts =
+    (before : Texts) × (text : List ℕ) × ArePartsOf input bundle before
+    × (texts ≡ with_text begun.0 text before) × IsIn input begun.1
+    × IsSoFar left rest begun.1.text.now text
+
+-- these lines are left of the input, and the rest is what they are in it
+abbrev pub IsLeft : List ℕ → List (List ℕ) → List ℕ → Type 0
+IsLeft input [] rest = Unit {0}
+IsLeft input (line ∷ left) rest =
+    ((before : List ℕ) × (input ≡ before ++ rest)) × (lines_of rest ≡ line ∷ left)
+
+-- an input is read up to these lines, with these texts of its sections so far
+abbrev pub IsReadTo : List ℕ → List (List ℕ) → Reader → Texts → Type 0
+IsReadTo input left reader texts =
+    (reader.len ≡ length input) × IsLeft input left reader.rest.now
+    × AreSoFar input left reader.rest.now reader.bundle reader.begun texts
+
+-- a line is read as it is read into the texts
+abbrev pub Reads : (number : ℕ) → List ℕ → (old new : Reader) → Type 0
+Reads number line old new =
+    (input : List ℕ) (left : List (List ℕ)) (texts : Texts) → IsReadTo input (line ∷ left) old texts
+    → (next : Texts)
+    × (with_numbered_line (reading_of old texts) (number, line) ≡ Ok (reading_of new next))
+    × IsReadTo input left new next
+
+-- an error is that with which a line is not read into the texts
+abbrev pub IsFaultOf : (number : ℕ) → List ℕ → Reader → BundleError → Type 0
+IsFaultOf number line reader error =
+    (texts : Texts)
+    → IsBundleFault (with_numbered_line (reading_of reader texts) (number, line)) error
+
+-- what is left from the section's line on is no longer of the one before, if there is one
+abbrev pub Ends : List ℕ → Option (Section × Part) → (old new : Bundle) → Type 0
+Ends left None old new = new ≡ old
+Ends left (Some begun) old new =
+    (part : Part) × (new ≡ with_part begun.0 part old) × (part.start ≡ begun.1.start)
+    × ((text : List ℕ) → begun.1.text.now ≡ text ++ left → part.text.now ≡ text)
+
+-- a section is begun, which may be there, with the rest as its part
+abbrev pub Begins : Option Section → List ℕ → (old new : Reader) → Type 0
+Begins None left old new = ⊥
+Begins (Some section) left old new =
+    (may_follow (last_of old) section ≡ true) × Ends left old.begun old.bundle new.bundle
+    × (new.rest ≡ old.rest) × (new.len ≡ old.len)
+    × (new.begun
+    ≡ Some (section, record { text = old.rest; start = old.len - length old.rest.now }))

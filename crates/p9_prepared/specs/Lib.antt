@@ -2,6 +2,7 @@ pub mod Script
 pub mod ScriptFaults
 pub mod Section
 pub mod Bundle
+pub mod Statements
 pub mod Head
 pub mod Layout
 pub mod Refusal

@@ -1,13 +1,12 @@
 //! Bundles: the program's input, in sections.
 
-ghost use Rattle.std.specs.Prelude.{◌≡◌, IfErr, IfOk, Ok, OnOk};
-ghost use Rattle.std.specs.List.{list_all};
-ghost use Rattle.std.specs.Option.{option_map};
-ghost use Rattle.std.specs.String.{string_bytes};
-ghost use Rattle.p9_base.specs.Line.{is_blank};
-ghost use Rattle.p9_prepared.specs.Bundle.{IsBundleFault, begun, bundle_of, bundle_view, continued};
-ghost use Rattle.p9_prepared.specs.Bundle.{reader_view, unread, with_line, with_line_in};
-ghost use Rattle.p9_prepared.specs.Bundle.{with_numbered_line, with_section};
+ghost use Rattle.std.specs.Prelude.{◌≡◌, ◌==◌, ℕ, List, [], ◌++◌, IfErr, IfOk, None, Ok, OnOk};
+ghost use Rattle.std.specs.Prelude.{true};
+ghost use Rattle.std.specs.List.{after_first, list_all};
+ghost use Rattle.p9_base.specs.Line.{is_blank, lines_of};
+ghost use Rattle.p9_prepared.specs.Bundle.{ArePartsOf, Begins, Ends, IsBundleFault, IsFaultOf};
+ghost use Rattle.p9_prepared.specs.Bundle.{IsReadTo, Reads, Texts, begun, bundle_of, continued};
+ghost use Rattle.p9_prepared.specs.Bundle.{last_of, reading_of, unread, with_part};
 
 use crate::section::Section;
 use p9_base::{NoMemory, lines};
@@ -25,26 +24,42 @@ pub enum BundleError {
     NoMemory,
 }
 
-/// The sections of a bundle: of each the text of its lines, or `None` where it isn't there.
-#[derive(Drop)]
-pub struct Bundle<A: Allocator> {
-    pub world: Option<String<A>>,
-    pub ns: Option<String<A>>,
-    pub cert: Option<String<A>>,
-    pub script: Option<String<A>>,
+/// A section as it is in the input.
+#[derive(Clone, Copy)]
+pub struct Part<'a> {
+    /// Its lines, as the input has them.
+    pub text: &'a str,
+    /// The place of their first byte in the input.
+    pub start: usize,
 }
 
-// A bundle as far as it is read, and the section that was begun last.
-#[derive(Drop)]
-struct Reader<A: Allocator> {
-    bundle: Bundle<A>,
-    last: Option<Section>,
+/// The sections of a bundle, each as it is in the input, or `None` where it isn't there.
+#[derive(Clone, Copy)]
+pub struct Bundle<'a> {
+    pub world: Option<Part<'a>>,
+    pub ns: Option<Part<'a>>,
+    pub cert: Option<Part<'a>>,
+    pub script: Option<Part<'a>>,
 }
 
-impl<A: Allocator + Copy> Reader<A> {
+// A bundle as far as it is read.
+#[derive(Clone, Copy)]
+struct Reader<'a> {
+    // the sections before the one that was begun last
+    bundle: Bundle<'a>,
+    // the section that was begun last, with all of the input from its first line on
+    begun: Option<(Section, Part<'a>)>,
+    // what is left of the input, from the next line on
+    rest: &'a str,
+    // how many bytes the input has
+    len: usize,
+}
+
+impl<'a> Reader<'a> {
     // Nothing is read yet.
-    fn new() -> Reader<A>
-        ensures { reader_view result ≡ unread }
+    fn new(input: &'a str) -> Reader<'a>
+        ensures unread { IsReadTo input.now (lines_of input.now) result unread.texts }
+        ensures last { last_of result ≡ None }
     {
         Reader {
             bundle: Bundle {
@@ -53,98 +68,142 @@ impl<A: Allocator + Copy> Reader<A> {
                 cert: None,
                 script: None,
             },
-            last: None,
+            begun: None,
+            rest: input,
+            len: input.len(),
         }
     }
 
-    // Reads the line of this number.
-    fn read_line(&mut self, alloc: A, number: u64, line: &str) -> Result<(), BundleError>
-        ensures ok { OnOk result
-            (with_numbered_line (reader_view self.old) (number, line.now)
-            ≡ Ok (reader_view self.new)) }
-        ensures bad { IfErr result
-            (IsBundleFault (with_numbered_line (reader_view self.old) (number, line.now))) }
+    // Reads the line of this number, which is the next one.
+    fn read_line(&mut self, number: u64, line: &str) -> Result<(), BundleError>
+        ensures ok { OnOk result (Reads number line.now self.old self.new) }
+        ensures bad { IfErr result (IsFaultOf number line.now self.old) }
     {
+        let left = self.rest;
+        self.rest = after_line(left);
         if line.starts_with("%%") {
-            return self.begin(alloc, number, Section::begun_by(line));
+            return self.begin(number, Section::begun_by(line), left);
         }
-        self.go_on(number, line)
+        self.test_text(number, line)
     }
 
-    // Begins a section, if the line of this number names one that may be there.
-    fn begin(&mut self, alloc: A, number: u64, section: Option<Section>) -> Result<(), BundleError>
-        ensures ok { OnOk result
-            (begun (reader_view self.old) number section ≡ Ok (reader_view self.new)) }
-        ensures bad { IfErr result (IsBundleFault (begun (reader_view self.old) number section)) }
+    // Begins a section with what is left, if the line of this number names one that may be there. What
+    // is left from that line on belongs no longer to the section before.
+    fn begin(
+        &mut self,
+        number: u64,
+        section: Option<Section>,
+        left: &str,
+    ) -> Result<(), BundleError>
+        ensures ok { OnOk result (Begins section left.now self.old self.new) }
+        ensures bad { IfErr result (λ error. (texts : Texts)
+            → IsBundleFault (begun (reading_of self.old texts) number section) error) }
     {
         let Some(section) = section else {
             return Err(BundleError::BadBundle { line: number });
         };
-        if !section.may_follow(self.last) {
+        if !section.may_follow(self.last()) {
             return Err(BundleError::BadBundle { line: number });
         }
-        self.bundle.begin(alloc, section);
-        self.last = Some(section);
+        self.bundle = self.before(left);
+        let start = self.len.saturating_sub(self.rest.len());
+        self.begun = Some((
+            section,
+            Part {
+                text: self.rest,
+                start,
+            },
+        ));
         Ok(())
     }
 
-    // Adds a line to the section that was begun last.
-    fn go_on(&mut self, number: u64, line: &str) -> Result<(), BundleError>
-        ensures ok { OnOk result
-            (continued (reader_view self.old) number line.now self.old.last
-            ≡ Ok (reader_view self.new)) }
-        ensures bad { IfErr result
-            (IsBundleFault (continued (reader_view self.old) number line.now self.old.last)) }
+    // The sections up to the line with which this begins.
+    fn before(&self, left: &str) -> Bundle<'a>
+        ensures { Ends left.now self.now.begun self.now.bundle result }
     {
-        if let Some(section) = self.last {
-            self.bundle.push_line(section, line)?;
-            return Ok(());
+        match self.begun {
+            Some((section, part)) => self.bundle.with_part(section, part.without(left)),
+            None => self.bundle,
         }
-        if !is_blank(line) {
+    }
+
+    // Whether a line that begins no section may be there: before the first section it is blank.
+    fn test_text(&self, number: u64, line: &str) -> Result<(), BundleError>
+        ensures ok { OnOk result (last_of self.now ≡ None → list_all is_blank line.now ≡ true) }
+        ensures bad { IfErr result (λ error. (texts : Texts) → IsBundleFault
+            (continued (reading_of self.now texts) number line.now (last_of self.now)) error) }
+    {
+        if self.begun.is_none() && !is_blank(line) {
             return Err(BundleError::BadBundle { line: number });
         }
         Ok(())
     }
-}
 
-impl<A: Allocator + Copy> Bundle<A> {
-    // Makes the section's text an empty one.
-    fn begin(&mut self, alloc: A, section: Section)
-        ensures { bundle_view self.new ≡ with_section section (bundle_view self.old) }
+    // The section that was begun last.
+    fn last(&self) -> Option<Section>
+        ensures { result ≡ last_of self.now }
     {
-        match section {
-            Section::World => self.world = Some(String::new(alloc)),
-            Section::Ns => self.ns = Some(String::new(alloc)),
-            Section::Cert => self.cert = Some(String::new(alloc)),
-            Section::Script => self.script = Some(String::new(alloc)),
+        match self.begun {
+            Some((section, _)) => Some(section),
+            None => None,
         }
     }
 
-    // Adds a line to the section's text.
-    fn push_line(&mut self, section: Section, line: &str) -> Result<(), NoMemory>
-        ensures { OnOk result
-            (bundle_view self.new ≡ with_line_in section line.now (bundle_view self.old)) }
+    // The sections, where no line is left.
+    fn bundle(self) -> Bundle<'a>
+        ensures { (input : List ℕ) (texts : Texts) → IsReadTo input [] self.entry texts
+            → ArePartsOf input result texts }
     {
-        match section {
-            Section::World => push_line(&mut self.world, line),
-            Section::Ns => push_line(&mut self.ns, line),
-            Section::Cert => push_line(&mut self.cert, line),
-            Section::Script => push_line(&mut self.script, line),
+        match self.begun {
+            Some((section, part)) => self.bundle.with_part(section, part),
+            None => self.bundle,
         }
     }
 }
 
-// Adds a line to a section's text, if the section is there.
-fn push_line<A: Allocator + Copy>(text: &mut Option<String<A>>, line: &str) -> Result<(), NoMemory>
-    ensures { OnOk result
-        (option_map string_bytes text.new
-        ≡ option_map (with_line line.now) (option_map string_bytes text.old)) }
+impl<'a> Bundle<'a> {
+    // The same with this part as that section.
+    fn with_part(self, section: Section, part: Part<'a>) -> Bundle<'a>
+        ensures { result ≡ with_part section part.entry self.entry }
+    {
+        let part = Some(part);
+        match section {
+            Section::World => Bundle {
+                world: part,
+                ..self
+            },
+            Section::Ns => Bundle { ns: part, ..self },
+            Section::Cert => Bundle { cert: part, ..self },
+            Section::Script => Bundle {
+                script: part,
+                ..self
+            },
+        }
+    }
+}
+
+impl<'a> Part<'a> {
+    // The part before these lines, with which it ends.
+    fn without(self, lines: &str) -> Part<'a>
+        ensures start { result.start ≡ self.entry.start }
+        ensures text { (text : List ℕ) → self.entry.text.now ≡ text ++ lines.now
+            → result.text.now ≡ text }
+    {
+        Part {
+            text: self.text.strip_suffix(lines).unwrap_or(self.text),
+            start: self.start,
+        }
+    }
+}
+
+// What is behind the first newline of a text; nothing where it has none.
+fn after_line(text: &str) -> &str
+    ensures { result.now ≡ after_first (λ b. b == 10) text.now }
 {
-    if let Some(text) = text {
-        text.push_str(line)?;
-        text.push('\n')?;
+    match text.split_once('\n') {
+        Some((_, rest)) => rest,
+        None => "",
     }
-    Ok(())
 }
 
 /// Whether a line has nothing but blanks and tabs.
@@ -154,23 +213,23 @@ pub(crate) fn is_blank(line: &str) -> bool
     line.bytes().all(|byte| byte == b' ' || byte == b'\t')
 }
 
-/// The sections of a bundle.
+/// The sections of a bundle. Nothing of the text is copied.
 ///
 /// A section begins with one of the lines `%% world`, `%% ns`, `%% cert` and `%% script`, and has
-/// the lines up to the next section or the end; in its text each of them ends with a newline. Each
-/// section is there once at most, and they come in this order. Any other line that begins with
-/// `%%`, and a line before the first section that has anything but blanks and tabs, is
-/// [`BundleError::BadBundle`]; a failed allocation is [`BundleError::NoMemory`].
-pub fn split_bundle<A: Allocator + Copy>(alloc: A, text: &str) -> Result<Bundle<A>, BundleError>
-    ensures ok { IfOk result (λ bundle. bundle_of text.now ≡ Ok (bundle_view bundle)) }
+/// the lines up to the next section or the end. Each section is there once at most, and they come in
+/// this order. Any other line that begins with `%%`, and a line before the first section that has
+/// anything but blanks and tabs, is [`BundleError::BadBundle`]; a failed allocation is
+/// [`BundleError::NoMemory`].
+pub fn split_bundle<A: Allocator + Copy>(alloc: A, text: &str) -> Result<Bundle<'_>, BundleError>
+    ensures ok { IfOk result (λ bundle.
+        (texts : Texts) × (bundle_of text.now ≡ Ok texts) × ArePartsOf text.now bundle texts) }
     ensures bad { IfErr result (IsBundleFault (bundle_of text.now)) }
 {
-    let mut reader = Reader::new();
+    let mut reader = Reader::new(text);
     for (position, line) in lines(alloc, text)?.iter().enumerate() {
-        reader.read_line(alloc, position as u64 + 1, line)?;
+        reader.read_line(position as u64 + 1, line)?;
     }
-    let Reader { bundle, last: _ } = reader;
-    Ok(bundle)
+    Ok(reader.bundle())
 }
 
 /// Every error that [`p9_base::NoMemory`] is made from says that an allocation failed.

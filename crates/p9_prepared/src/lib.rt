@@ -18,7 +18,7 @@ mod section;
 mod small;
 pub mod status;
 
-pub use bundle::{Bundle, BundleError, split_bundle};
+pub use bundle::{Bundle, BundleError, Part, split_bundle};
 pub use head::Way;
 pub use layout::{InputLine, input_lines};
 pub use line::{print_bytes, print_line};
@@ -28,5 +28,5 @@ pub use prepared::{Needs, PrepareError, Prepared, name_space_of, prepare, prepar
 pub use refusal::{Refusal, Stop, print_stop};
 pub use report::print_reports;
 pub use script::{ScriptError, read_script};
-pub use script_faults::{EVENT_EXPECTED, bad_events};
+pub use script_faults::{BadEvent, EVENT_EXPECTED, bad_events};
 pub use section::{SECTIONS, Section};

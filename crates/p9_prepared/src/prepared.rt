@@ -2,12 +2,13 @@
 
 ghost use Rattle.std.specs.Prelude.{◌≡◌, IfErr, IfOk, Ok, OnOk, map};
 ghost use Rattle.p9_cert.specs.declared.gap.Gap.{Gap};
-ghost use Rattle.p9_prepared.specs.Bundle.{bundle_view};
+ghost use Rattle.p9_prepared.specs.Bundle.{Texts, bundle_view};
 ghost use Rattle.p9_prepared.specs.NameSpace.{NameSpace as NameSpaceOf};
 ghost use Rattle.p9_prepared.specs.Prepared.{IsPrepareError, IsReported, gap_in, opened};
 ghost use Rattle.p9_prepared.specs.Prepared.{prepared_of, prepared_with, rest_in, space_of};
 ghost use Rattle.p9_prepared.specs.Prepared.{space_with};
 ghost use Rattle.p9_prepared.specs.Refusal.{IsStop};
+ghost use Rattle.p9_prepared.specs.Statements.{SameStatements};
 ghost use Rattle.p9_export.specs.Event.{event_view};
 
 use crate::bundle::Bundle;
@@ -147,7 +148,7 @@ pub fn name_space_of<T: Tree>(alloc: T::Alloc, input: &[u8]) -> Result<NameSpace
 // A name space, where the script of its bundle is good.
 fn space_with<T: Tree>(
     alloc: T::Alloc,
-    bundle: &Bundle<T::Alloc>,
+    bundle: &Bundle<'_>,
     space: NameSpace<T>,
 ) -> Result<NameSpace<T>, Stop>
     ensures ok { IfOk result (λ found. space_with (bundle_view bundle.now) space ≡ Ok found) }
@@ -163,7 +164,7 @@ fn space_with<T: Tree>(
 }
 
 // Whether the script of a bundle is good; its first bad line, where it is not.
-fn test_script<A: Allocator + Copy>(alloc: A, bundle: &Bundle<A>) -> Result<(), Stop>
+fn test_script<A: Allocator + Copy>(alloc: A, bundle: &Bundle<'_>) -> Result<(), Stop>
     ensures ok { OnOk result ((space : NameSpaceOf)
         → space_with (bundle_view bundle.now) space ≡ Ok space) }
     ensures stop { IfErr result (λ stop. (space : NameSpaceOf)
@@ -176,15 +177,16 @@ fn test_script<A: Allocator + Copy>(alloc: A, bundle: &Bundle<A>) -> Result<(), 
 }
 
 // The sections of an input, and the name space that they describe.
-fn opened<T: Tree>(alloc: T::Alloc, input: &[u8]) -> Result<(Bundle<T::Alloc>, NameSpace<T>), Stop>
-    ensures ok { IfOk result (λ found. opened input.now ≡ Ok (bundle_view found.0, found.1)) }
+fn opened<T: Tree>(alloc: T::Alloc, input: &[u8]) -> Result<(Bundle<'_>, NameSpace<T>), Stop>
+    ensures ok { IfOk result (λ found. (texts : Texts)
+        × (opened input.now ≡ Ok (texts, found.1)) × SameStatements (bundle_view found.0) texts) }
     ensures stop { IfErr result (IsStop (opened input.now)) }
 {
     let Some(text) = text(input) else {
         return Err(Stop::Refused(Refusal::NotUtf8));
     };
     let bundle = sections(alloc, text)?;
-    let space = NameSpace::read(alloc, text_of(&bundle.world), text_of(&bundle.ns))?;
+    let space = NameSpace::read(alloc, text_of(bundle.world), text_of(bundle.ns))?;
     Ok((bundle, space))
 }
 
@@ -192,7 +194,7 @@ fn opened<T: Tree>(alloc: T::Alloc, input: &[u8]) -> Result<(Bundle<T::Alloc>, N
 fn prepare_with<T: Tree>(
     alloc: T::Alloc,
     needs: Needs,
-    bundle: &Bundle<T::Alloc>,
+    bundle: &Bundle<'_>,
     space: NameSpace<T>,
 ) -> Result<Prepared<T>, PrepareError<T::Alloc>>
     ensures ok { IfOk result (λ prepared.
@@ -223,7 +225,7 @@ fn prepare_with<T: Tree>(
 fn rest<A: Allocator + Copy>(
     alloc: A,
     needs: Needs,
-    bundle: &Bundle<A>,
+    bundle: &Bundle<'_>,
 ) -> Result<(Option<Certificate<A>>, Vec<Event<A>, A>), Stop>
     ensures ok { IfOk result (λ found. rest_in needs (bundle_view bundle.now)
         ≡ Ok (found.0, map event_view found.1.items)) }

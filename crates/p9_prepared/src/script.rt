@@ -115,16 +115,19 @@ fn close_event<A: Allocator + Copy>(name: &str, clock: &str) -> Option<Event<A>>
     Some(Event::Close(short_number(name)?, short_number(clock)?))
 }
 
-// A session's name or a reading of the clock: a decimal number below 2^32.
-fn short_number(word: &str) -> Option<u32>
+/// A session's name or a reading of the clock: a decimal number below 2^32.
+pub(crate) fn short_number(word: &str) -> Option<u32>
     ensures { result ≡ short_number word.now }
 {
     let number = number(word, 1 << 32)?;
     Some(number as u32)
 }
 
-// The frame that hexadecimal digits write: one byte or more.
-fn frame_of_hex<A: Allocator + Copy>(alloc: A, digits: &str) -> Result<Option<Vec<u8, A>>, NoMemory>
+/// The frame that hexadecimal digits write: one byte or more. The only error is a failed allocation.
+pub(crate) fn frame_of_hex<A: Allocator + Copy>(
+    alloc: A,
+    digits: &str,
+) -> Result<Option<Vec<u8, A>>, NoMemory>
     ensures { IfOk result (λ frame. option_map (λ f. f.items) frame ≡ frame_of_hex digits.now) }
 {
     if digits.is_empty() {

@@ -1,29 +1,35 @@
--- By which right a user passes a directory.
-use Rattle.std.specs.Prelude.{ℕ, ◌&&◌, List, Option, Some, None, codes, if◌then◌else◌}
-use Rattle.std.specs.Str.{bytes_eq}
-use Rattle.p9_base.specs.Group.{is_member, leads}
+-- By which right a user passes a directory or alters a node.
+use Rattle.std.specs.Prelude.{ℕ, ◌++◌, List, Option, Some, codes}
+use Rattle.std.specs.Option.{option_map, option_map_or}
+use Rattle.p9_base.specs.declared.mode.Rights.{Rights}
 use Rattle.p9_tree.specs.Node.{Node}
-use Rattle.p9_space.specs.Rights.{Who}
+use Rattle.p9_space.specs.Rights.{Who, to_execute, to_write}
+use Rattle.p9_right.specs.Class.{class_of, class_words, ruling_class}
+use Rattle.p9_right.specs.declared.right.Deed.{Deed}
+use Rattle.p9_right.specs.declared.right.Deed.TheVariants.{Search, Write, Rule}
 use Rattle.p9_right.specs.declared.right.Right.{Right}
-use Rattle.p9_right.specs.declared.right.Right.TheVariants.{OthersSearch, OwnerSearches, MemberSearches}
-use Rattle.p9_right.specs.declared.right.Right.TheVariants.{OwnerRules, LeaderRules}
 
--- the first that the user has: the others' right to search, the owner's, that of a member of its
--- group; and then the right of the owner, and of who leads the group, to change its mode
+-- the right to do this, as the first class that has one of the wanted rights; or else the right to
+-- change the node's mode, as who rules it
+abbrev pub first_right : Who → Node → (wanted : Rights) → Deed → Option Right
+first_right who n wanted deed =
+    option_map_or (λ class. Some (record { class = class; deed = deed })) (class_of who n wanted)
+    (option_map (λ class. record { class = class; deed = Rule }) (ruling_class who n))
+
+-- to search the directory, or else to change its mode
 abbrev pub right_of : Who → Node → Option Right
-right_of who n =
-    let permissions = n.mode.permissions in
-    if permissions.others.execute then Some OthersSearch
-    else if bytes_eq n.uid who.user && permissions.owner.execute then Some OwnerSearches
-    else if permissions.group.execute && is_member who.groups n.gid who.user then Some MemberSearches
-    else if bytes_eq n.uid who.user then Some OwnerRules
-    else if leads who.groups n.gid who.user then Some LeaderRules
-    else None
+right_of who n = first_right who n to_execute Search
 
--- the right in words
-abbrev pub right_words : Right → List ℕ
-right_words OthersSearch = codes "others may search"
-right_words OwnerSearches = codes "its owner may search"
-right_words MemberSearches = codes "a member of its group may search"
-right_words OwnerRules = codes "its owner may change its mode"
-right_words LeaderRules = codes "the leader of its group may change its mode"
+-- to write the node, or else to change its mode
+abbrev pub altering_right : Who → Node → Option Right
+altering_right who n = first_right who n to_write Write
+
+-- what a class may do
+abbrev pub deed_words : Deed → List ℕ
+deed_words Search = codes " may search"
+deed_words Write = codes " may write"
+deed_words Rule = codes " may change its mode"
+
+-- as whom what may be done, where the group is called so
+abbrev pub right_words : Right → (group : List ℕ) → List ℕ
+right_words right group = class_words right.class group ++ deed_words right.deed

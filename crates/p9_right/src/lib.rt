@@ -1,6 +1,8 @@
-//! By which right a user passes a directory, for those who tell of it.
+//! By which right a user may do something with a node, for those who tell of it.
 #![tactic(auto)]
 
+mod class;
 mod right;
 
-pub use right::{Right, right_of};
+pub use class::{Class, class_of, ruling_class};
+pub use right::{Deed, Right, altering_right, right_of};

@@ -1,45 +1,20 @@
 -- An empty line more at the end of a text.
-use Rattle.std.proofs.Common.{◌≡◌, ℕ, ◌+◌, Bool, true, false, cond, List, [], ◌∷◌, ◌++◌, map}
-use Rattle.std.proofs.Common.{Option, Some, None, Ok, refl, sym, ap, ◌∙◌, subst}
-use Rattle.std.specs.Prelude.{codes, nat_eq, not, filter}
-use Rattle.std.specs.List.{enumerate_from, list_all, starts_with}
+use Rattle.std.proofs.Common.{◌≡◌, ℕ, Bool, true, false, cond, List, [], ◌∷◌}
+use Rattle.std.proofs.Common.{Some, None, Ok, refl, ◌∙◌, subst}
+use Rattle.std.specs.Prelude.{codes, nat_eq}
+use Rattle.std.specs.List.{list_all, starts_with}
 use Rattle.std.specs.Option.{option_map}
 use Rattle.std.specs.Str.{bytes_eq}
-use Rattle.std.proofs.lemmas.List.{append-nil}
-use Rattle.p9_base.specs.Line.{is_blank, is_skipped, lines_of, words_of}
-use Rattle.p9_base.specs.Statement.{statements_of}
+use Rattle.p9_base.specs.Line.{is_blank}
 use Rattle.p9_prepared.specs.Bundle.{Reading, Texts, begun, continued, with_line}
 use Rattle.p9_prepared.specs.Section.{section_of}
 use Rattle.p9_prepared.specs.Bundle.{with_numbered_line}
 use Rattle.p9_seal.specs.Text.{cert_head, script_head}
-use Rattle.p9_seal.specs.Sections.{SameStatements, statements_in}
-use Rattle.p9_seal.proofs.Pieces.{LastLine, lines_of-append, none, empty}
+use Rattle.p9_prepared.specs.Statements.{SameStatements}
+use Rattle.p9_prepared.proofs.Statements.{same-itself, statements_in-blank}
+use Rattle.p9_seal.proofs.Pieces.{LastLine, none, empty}
 use Rattle.p9_seal.proofs.Readings.{Reads, Step, behind, cond-ok, with_cert_line}
 use Rattle.p9_seal.proofs.Readings.{with_script_line}
-
--- it says nothing
-filter-blank : (k : ℕ) (lines : List (List ℕ)) →
-    filter (λ line. not (is_skipped line.1)) (enumerate_from k (map words_of lines))
-    ≡ filter (λ line. not (is_skipped line.1)) (enumerate_from k (map words_of (lines ++ [] ∷ [])))
-filter-blank k [] = refl
-filter-blank k (line ∷ lines) =
-    ap (λ rest. cond (not (is_skipped (words_of line))) ((k, words_of line) ∷ rest) rest)
-    (filter-blank (k + 1) lines)
-
-pub statements_of-blank : (text : List ℕ) → statements_of text ≡ statements_of (with_line [] text)
-unfolding statements_of
-statements_of-blank text =
-    filter-blank 1 (lines_of text)
-    ∙ ap (λ lines. filter (λ line. not (is_skipped line.1)) (enumerate_from 1 (map words_of lines)))
-    (ap (λ t. lines_of t ++ [] ∷ []) (sym (append-nil text)) ∙ sym (lines_of-append (text ++ []) []))
-
-pub statements_in-blank : (text : Option (List ℕ))
-    → statements_in text ≡ statements_in (option_map (with_line []) text)
-statements_in-blank None = refl
-statements_in-blank (Some text) = ap Some (statements_of-blank text)
-
-same : (texts : Texts) → SameStatements texts texts
-same texts = record { world = refl; ns = refl; cert = refl; script = refl }
 
 -- The section that was begun last.
 
@@ -105,7 +80,7 @@ known-reads (line ∷ lines) reading last known reads =
 -- An empty line is read, and each section says the same.
 pub blank-step : (reading : Reading) → IsKnown reading
     → (next : Reading) × Step reading [] next × SameStatements reading.texts next.texts
-blank-step reading (before texts) = (record { texts = texts; last = None }, (λ _. refl), same texts)
+blank-step reading (before texts) = (record { texts = texts; last = None }, (λ _. refl), same-itself texts)
 blank-step reading (world texts) = (
   behind (codes "%% world") (record texts { world = option_map (with_line []) texts.world }),
   (λ _. refl),
@@ -131,7 +106,7 @@ blank-step reading (script texts) = (
 pub last-reads : (last : List (List ℕ)) (reading after : Reading) → IsKnown reading
     → LastLine last → Reads reading last after → SameStatements reading.texts after.texts
 last-reads last reading after known none reads =
-    subst (λ (r : Reading). SameStatements reading.texts r.texts) reads (same reading.texts)
+    subst (λ (r : Reading). SameStatements reading.texts r.texts) reads (same-itself reading.texts)
 last-reads last reading after known empty reads =
     let next = blank-step reading known in
     let e : with_numbered_line reading (0, []) ≡ Ok reads.0 = reads.1 0 in

@@ -1,5 +1,5 @@
 -- The lines of texts that are put together.
-use Rattle.std.proofs.Common.{◌≡◌, ◌==◌, ℕ, ◌+◌, ◌-◌, ◌<◌, Bool, true, false, cond, List, [], ◌∷◌}
+use Rattle.std.proofs.Common.{◌≡◌, ◌==◌, ℕ, ◌+◌, ◌-◌, Bool, true, false, cond, List, [], ◌∷◌}
 use Rattle.std.proofs.Common.{◌++◌, length, take, drop, get_or, refl, sym, ap, ◌∙◌, arith}
 use Rattle.std.proofs.Common.{append_assoc, zero, suc}
 use Rattle.std.specs.Prelude.{nat_lt}
@@ -10,32 +10,10 @@ use Rattle.std.proofs.lemmas.Bool.{and_parts}
 use Rattle.std.proofs.lemmas.Bool.Decides.{nat_tests}
 use Rattle.std.proofs.lemmas.List.{take_more, take_all}
 use Rattle.std.proofs.lemmas.List.Elements.{All-from_recursion}
-use Rattle.std.proofs.lemmas.List.Splits.{length-slice_split, slice_split_at}
+use Rattle.std.proofs.lemmas.List.Splits.{slice_split_at}
 use Rattle.p9_base.specs.Line.{lines_of}
 use Rattle.p9_base.specs.Line.{ends_empty, whole_lines}
 use Rattle.p9_seal.specs.Text.{ended}
-
--- Texts, cut at a newline.
-
--- the first part of some parts, and others after them
-onto_first-append : (x : ℕ) (parts rest : List (List ℕ)) → 0 < length parts
-    → onto_first x (parts ++ rest) ≡ onto_first x parts ++ rest
-onto_first-append x [] rest some = absurd (omega arith)
-onto_first-append x (part ∷ parts) rest some = refl
-
--- a text with a newline in it has the lines before and those after that
-pub lines_of-append : (xs ys : List ℕ) → lines_of (xs ++ 10 ∷ ys) ≡ lines_of xs ++ lines_of ys
-lines_of-append [] ys = refl
-lines_of-append (x ∷ xs) ys =
-    lines-onto (x == 10) x (lines_of xs) (lines_of ys) (lines_of (xs ++ 10 ∷ ys))
-    (omega (arith, length-slice_split (λ b. b == 10) xs)) (lines_of-append xs ys)
-  where
-    lines-onto : (b : Bool) (x : ℕ) (parts rest all : List (List ℕ)) → 0 < length parts
-        → all ≡ parts ++ rest →
-        cond b ([] ∷ all) (onto_first x all) ≡ cond b ([] ∷ parts) (onto_first x parts) ++ rest
-    lines-onto true x parts rest all some is = ap (λ ls. [] ∷ ls) is
-    lines-onto false x parts rest all some is =
-        ap (onto_first x) is ∙ onto_first-append x parts rest some
 
 -- Lines without a newline.
 

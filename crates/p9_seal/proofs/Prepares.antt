@@ -1,70 +1,23 @@
 -- What an input with another certificate is prepared as.
 use Rattle.std.proofs.Common.{◌≡◌, ℕ, List, [], Option, Some, None, Result, Ok, Err, true}
 use Rattle.std.proofs.Common.{refl, ap, ◌∙◌}
-use Rattle.std.specs.Prelude.{unwrap_or}
 use Rattle.std.specs.Str.{is_utf8}
 use Rattle.p9_base.specs.declared.node_ref.NodeRef.{NodeRef}
 use Rattle.p9_base.specs.Results.{and_then, need}
 use Rattle.p9_base.specs.Statement.{statements_of}
 use Rattle.p9_cert.specs.Text.{certificate_of}
-use Rattle.p9_nsline.specs.Line.{lines_in}
 use Rattle.p9_step.specs.Event.{Event}
-use Rattle.p9_world.specs.Read.{world_of}
-use Rattle.p9_world.specs.World.{World}
 use Rattle.p9_prepared.specs.Bundle.{Texts, bundle_of}
-use Rattle.p9_prepared.specs.NameSpace.{NameSpace, space_in, space_over, world_in}
+use Rattle.p9_prepared.specs.NameSpace.{NameSpace, space_in}
 use Rattle.p9_prepared.specs.Prepared.{Prepared, Rejected, certificate_in, prepared_of, script_in}
 use Rattle.p9_prepared.specs.Prepared.{space_of, with_reports}
 use Rattle.p9_prepared.specs.declared.prepared.Needs.{Needs}
 use Rattle.p9_prepared.specs.declared.refusal.Refusal.{Refusal}
-use Rattle.p9_seal.specs.Sections.{HasCertificate, statements_in}
+use Rattle.p9_prepared.specs.Statements.{statements_in}
+use Rattle.p9_prepared.proofs.Statements.{script_in-same, some-same, space_in-same}
+use Rattle.p9_seal.specs.Sections.{HasCertificate}
 
--- Sections that say the same.
-
-some-same : {X : Type 0} (x y : X) → Some x ≡ Some y → x ≡ y
-some-same x y e = cc
-
-world_of-same : (x y : List ℕ) → statements_of x ≡ statements_of y → world_of x ≡ world_of y
-unfolding world_of
-world_of-same x y e = rw e refl
-
-lines_in-same : (x y : List ℕ) → statements_of x ≡ statements_of y → lines_in x ≡ lines_in y
-unfolding lines_in
-lines_in-same x y e = rw e refl
-
-world_in-same : (x y : Option (List ℕ)) → statements_in x ≡ statements_in y
-    → world_in x ≡ world_in y
-world_in-same None None e = refl
-world_in-same None (Some y) e = absurd (cc)
-world_in-same (Some x) None e = absurd (cc)
-world_in-same (Some x) (Some y) e = rw (world_of-same x y (some-same _ _ e)) refl
-
-text-same : (x y : Option (List ℕ)) → statements_in x ≡ statements_in y
-    → statements_of (unwrap_or x []) ≡ statements_of (unwrap_or y [])
-text-same None None e = refl
-text-same None (Some y) e = absurd (cc)
-text-same (Some x) None e = absurd (cc)
-text-same (Some x) (Some y) e = some-same _ _ e
-
-space_over-same : (x y : List ℕ) (w : World) → statements_of x ≡ statements_of y
-    → space_over x w ≡ space_over y w
-space_over-same x y w e = rw (lines_in-same x y e) refl
-
-space_in-same : (x y a b : Option (List ℕ)) → statements_in x ≡ statements_in y
-    → statements_in a ≡ statements_in b → space_in x a ≡ space_in y b
-space_in-same x y a b world ns =
-    ap (λ w. and_then w (space_over (unwrap_or a []))) (world_in-same x y world)
-    ∙ over (world_in y)
-  where
-    over : (w : Result World Refusal)
-        → and_then w (space_over (unwrap_or a [])) ≡ and_then w (space_over (unwrap_or b []))
-    over (Ok w) = space_over-same (unwrap_or a []) (unwrap_or b []) w (text-same a b ns)
-    over (Err refusal) = refl
-
-script_in-same : (t u : Texts) → statements_in t.script ≡ statements_in u.script
-    → script_in t ≡ script_in u
-script_in-same t u e = rw (text-same t.script u.script e) refl
-
+-- The rows of a section that says what a certificate says.
 certificate_in-same : (needs : Needs) (section : Option (List ℕ)) (cert : List ℕ)
     (rows : List NodeRef) → statements_in section ≡ Some (statements_of cert)
     → certificate_of cert ≡ Ok rows → certificate_in needs section ≡ Ok (Some rows)

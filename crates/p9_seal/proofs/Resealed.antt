@@ -9,7 +9,8 @@ use Rattle.std.proofs.lemmas.List.{append-nil}
 use Rattle.p9_base.specs.Line.{lines_of}
 use Rattle.p9_base.specs.Results.{and_then, try_fold}
 use Rattle.p9_prepared.specs.Bundle.{Reading, Texts, bundle_of, unread, with_numbered_line}
-use Rattle.p9_seal.specs.Sections.{HasCertificate, SameStatements, statements_in}
+use Rattle.p9_prepared.specs.Statements.{SameStatements, statements_in}
+use Rattle.p9_seal.specs.Sections.{HasCertificate}
 use Rattle.p9_seal.specs.Text.{begins_certificate_or_script, begins_script, cert_head, ended}
 use Rattle.p9_base.specs.Line.{ends_empty}
 use Rattle.p9_base.specs.Line.{whole_lines}

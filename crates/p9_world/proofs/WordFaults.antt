@@ -20,7 +20,7 @@ use Rattle.p9_world.specs.declared.error.LineFault.TheVariants.{TooMany}
 use Rattle.p9_world.specs.declared.line.FileLine.{FileLine}
 use Rattle.p9_world.specs.declared.line.WorldLine.TheVariants.{Server, Dir, File, User, Group, Hide}
 use Rattle.p9_world.specs.Change.{with_file}
-use Rattle.p9_world.specs.Entry.{NodeLine, in_last_server, last_number, with_dir}
+use Rattle.p9_world.specs.Entry.{NewNode, in_last_server, last_number, with_dir}
 use Rattle.p9_world.specs.Entry.{with_entry}
 use Rattle.p9_world.specs.Group.{are_distinct}
 use Rattle.p9_world.specs.Hide.{is_hidden_by}
@@ -65,7 +65,7 @@ then_done (Err fault) change others = others
 
 -- Parts of lines.
 
-entry-faults : (name : Component) (names : List Component) (entry : NodeLine) (server : ServerTree)
+entry-faults : (name : Component) (names : List Component) (entry : NewNode) (server : ServerTree)
     → HasOthers (with_entry name names entry server)
 entry-faults name names entry server =
     found (dir_of names server) NoParent _ refl

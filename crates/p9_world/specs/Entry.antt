@@ -37,14 +37,14 @@ in_last_server change w =
 -- New nodes.
 
 -- what a line says of a node: its owner is its last changer too
-pub record NodeLine : Type 0 where
+pub record NewNode : Type 0 where
   pub mode : Mode
   pub uid : List ℕ
   pub gid : List ℕ
   pub bytes : List ℕ
 
 -- the node of the server's next number in the directory, never changed since the time 0
-abbrev pub node_of_line : (number dir : ℕ) → Component → NodeLine → Node
+abbrev pub node_of_line : (number dir : ℕ) → Component → NewNode → Node
 node_of_line number dir name entry = record {
   number = number;
   parent = Some dir;
@@ -60,7 +60,7 @@ node_of_line number dir name entry = record {
 }
 
 -- the server with a new node, of this name in the directory that the other names lead to
-abbrev pub with_entry : Component → List Component → NodeLine → Server → Result Server LineFault
+abbrev pub with_entry : Component → List Component → NewNode → Server → Result Server LineFault
 with_entry name names entry server =
     obtain (dir_of names server) NoParent (λ dir.
     need (not (is_some (child_of dir name server.nodes))) Duplicate (

@@ -95,7 +95,7 @@ fn make_dir<T: Tree>(
         tree.set_root(permissions, uid, gid);
         return Ok(());
     };
-    let entry = NodeLine {
+    let entry = NewNode {
         mode: Mode {
             kind: Kind::Directory,
             permissions,
@@ -175,7 +175,7 @@ fn add_file_of<T: Tree>(
     if bytes.len() > FILE_MAX {
         return Err(Stop::Refused(LineFault::TooLarge));
     }
-    let entry = NodeLine {
+    let entry = NewNode {
         mode: file.mode,
         uid: file.uid,
         gid: file.gid,
@@ -195,7 +195,7 @@ fn owners(uid: &str, gid: &str) -> Option<(User, User)>
 
 // What a line says of a node.
 #[derive(Clone, Copy)]
-struct NodeLine<'a> {
+struct NewNode<'a> {
     mode: Mode,
     uid: User,
     gid: User,
@@ -208,7 +208,7 @@ fn add_entry<T: Tree>(
     last_dir: &mut LastDir<T::Alloc>,
     name: Name,
     names: Vec<Name, T::Alloc>,
-    entry: &NodeLine<'_>,
+    entry: &NewNode<'_>,
 ) -> Result<(), Stop>
     requires led { IsWhereNamesLead last_dir.old (T.state tree.old) }
     requires small { length entry.now.bytes.now ≤ file_max }

@@ -5,6 +5,7 @@ ghost use Rattle.std.specs.Result.{result_err};
 ghost use Rattle.p9_base.specs.Statement.{statement_view};
 ghost use Rattle.p9_world.specs.Faults.{IsReadOn, fault_view};
 ghost use Rattle.p9_world.specs.Read.{read_statement, world_of};
+ghost use Rattle.p9_world.specs.World.{empty_world};
 
 use crate::blame::blamed;
 use crate::error::{LineFault, Stop};
@@ -40,9 +41,22 @@ pub fn bad_lines<T: Tree>(alloc: T::Alloc, text: &str) -> Result<Vec<BadLine, T:
         option_map fault_view (slice_get found.items 0) ≡ result_err (world_of text.now)) }
 {
     let mut world: Reader<T> = Reader::new(alloc);
+    bad_lines_from(alloc, &mut world, text)
+}
+
+// The bad lines of a text, which is read into the world of no lines.
+fn bad_lines_from<T: Tree>(
+    alloc: T::Alloc,
+    world: &mut Reader<T>,
+    text: &str,
+) -> Result<Vec<BadLine, T::Alloc>, NoMemory>
+    requires { world.old ≡ empty_world }
+    ensures { IfOk result (λ found.
+        option_map fault_view (slice_get found.items 0) ≡ result_err (world_of text.now)) }
+{
     let mut found = Vec::new(alloc);
     for statement in &statements(alloc, text)? {
-        if let Some(bad) = read_on(alloc, &mut world, statement)? {
+        if let Some(bad) = read_on(alloc, world, statement)? {
             found.push(bad)?;
         }
     }

@@ -6,6 +6,7 @@ ghost use Rattle.p9_tree.specs.Forest.{next_of};
 ghost use Rattle.p9_world.specs.Entry.{last_number};
 ghost use Rattle.p9_world.specs.NodeLine.{is_dir_line, last_of, made_by, node_lines_of};
 ghost use Rattle.p9_world.specs.NodeLine.{with_node_line};
+ghost use Rattle.p9_world.specs.World.{empty_world};
 
 use crate::error::Stop;
 use crate::read::read_line;
@@ -30,9 +31,21 @@ pub fn node_lines<T: Tree>(alloc: T::Alloc, text: &str) -> Result<Vec<NodeLine, 
     ensures { IfOk result (λ lines. lines.items ≡ node_lines_of text.now) }
 {
     let mut world: Reader<T> = Reader::new(alloc);
+    node_lines_from(alloc, &mut world, text)
+}
+
+// The same of a text that is read into the world of no lines.
+fn node_lines_from<T: Tree>(
+    alloc: T::Alloc,
+    world: &mut Reader<T>,
+    text: &str,
+) -> Result<Vec<NodeLine, T::Alloc>, NoMemory>
+    requires { world.old ≡ empty_world }
+    ensures { IfOk result (λ lines. lines.items ≡ node_lines_of text.now) }
+{
     let mut lines = Vec::new(alloc);
     for statement in &statements(alloc, text)? {
-        read_noted(alloc, &mut world, statement, &mut lines)?;
+        read_noted(alloc, world, statement, &mut lines)?;
     }
     Ok(lines)
 }

@@ -1,11 +1,11 @@
 use Rattle.std.proofs.Common.{◌≡◌, ◌++◌, None, Some, append-nil, map, sym, ap, ◌∙◌}
-use Rattle.std.specs.Prelude.{slice_get, if◌then◌else◌}
+use Rattle.std.specs.Prelude.{option_map, slice_get}
 use Rattle.p9_base.specs.Statement.{statement_view, statements_of}
 use Rattle.p9_nsline.proofs.Founds.{found-end, found-more}
 use Rattle.p9_prepared.specs.ScriptFaults.{bad_event_in, bad_events_in}
 use Rattle.p9_prepared.proofs.BadEvents.{first-bad}
 use Rattle.p9_prepared.proofs.script_faults.bad_events.Goals as goal
-use Rattle.p9_prepared.proofs.script_faults.bad_events.Goals.{then-branch+in_ok-push, else-branch}
+use Rattle.p9_prepared.proofs.script_faults.bad_events.Goals.{in-Some+in_ok-push, in_default}
 
 pub loop-statement-preserved : goal.loop-statement-preserved
 loop-statement-preserved g c =
@@ -15,23 +15,20 @@ loop-statement-preserved g c =
     ap (map statement_view) c.deref-statement-items.ensures.value
     ∙ c.in_ok-statements.ensures in
     let before = c.loop-statement.found.items in
-    let after = c.if-branch.found.items in
+    let after = c.match-branch-3.found.items in
     let i = c.loop-statement.statement-index in
-    let line = c.statement-item.result.line in
-    elim c.if-branch.branch [
-      | then-branch+in_ok-push w ↦
-          found-more statement_view bad_event_in items ys same i before after (Some line)
+    elim c.match-branch-3.branch [
+      | in-Some+in_ok-push w ↦
+          found-more statement_view bad_event_in items ys same i before after (Some w.in-Some.bad)
           (bad_events_in c.args.text.now) c.statement-item.result c.statement-item.result
           c.loop-statement-test.true c.statement-item.is
-          (ap (λ bad. if bad then Some line else None)
-          (sym c.in_ok-is_bad.ensures ∙ w.if-branch.true))
+          (sym c.in_ok-bad.ensures ∙ w.in-Some.is)
           (ap (λ v. v.items) w.found-is ∙ w.in_ok-push.ensures.items) c.loop-statement.invariant
-      | else-branch w ↦
+      | in_default w ↦
           found-more statement_view bad_event_in items ys same i before after None
           (bad_events_in c.args.text.now) c.statement-item.result c.statement-item.result
           c.loop-statement-test.true c.statement-item.is
-          (ap (λ bad. if bad then Some line else None)
-          (sym c.in_ok-is_bad.ensures ∙ w.if-branch.false))
+          (sym c.in_ok-bad.ensures ∙ w.in_default.is)
           (ap (λ v. v.items) w.found-is ∙ sym (append-nil before)) c.loop-statement.invariant
     ]
 
@@ -49,4 +46,4 @@ returns-clause-first g c =
     (sym (found-end statement_view bad_event_in items ys same c.loop-statement.statement-index
     c.loop-statement-test.false))
     ∙ c.loop-statement.invariant in
-    ap (λ lines. slice_get lines 0) all ∙ first-bad c.args.text.now
+    ap (λ lines. option_map (λ bad. bad.line) (slice_get lines 0)) all ∙ first-bad c.args.text.now

@@ -2,7 +2,7 @@ use Rattle.std.proofs.Common.{◌≡◌, [], drop, fold}
 use Rattle.p9_base.specs.Statement.{statements_of}
 use Rattle.p9_world.specs.NodeLine.{with_node_line}
 use Rattle.p9_world.specs.World.{empty_world}
-use Rattle.p9_world.proofs.node_line.node_lines.Given as goal
+use Rattle.p9_world.proofs.node_line.node_lines_from.Given as goal
 
 -- the statements that are left add to the lines so far what all of them add to none
 abbrev pub invariant-loop-statement : goal.invariant-loop-statement

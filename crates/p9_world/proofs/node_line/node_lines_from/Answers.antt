@@ -2,7 +2,7 @@ use Rattle.std.proofs.Common.{map, ap, ◌∙◌}
 use Rattle.p9_base.specs.Statement.{statement_view, statements_of}
 use Rattle.p9_world.specs.NodeLine.{with_node_line}
 use Rattle.p9_world.proofs.NodeLines.{fold-next, node_lines-all}
-use Rattle.p9_world.proofs.node_line.node_lines.Goals as goal
+use Rattle.p9_world.proofs.node_line.node_lines_from.Goals as goal
 
 pub loop-statement-preserved : goal.loop-statement-preserved
 loop-statement-preserved g c =

@@ -7,9 +7,9 @@ use Rattle.p9_world.specs.Read.{read_statement}
 use Rattle.p9_world.specs.World.{World}
 use Rattle.p9_world.proofs.BadLines.{AreFound-bad, AreFound-good, first-with_none, first-with_server}
 use Rattle.p9_world.proofs.Readings.{is-positive, is-zero}
-use Rattle.p9_world.proofs.faults.bad_lines.Goals as goal
-use Rattle.p9_world.proofs.faults.bad_lines.Goals.{in-Some+in_ok-push, in_default}
-use Rattle.p9_world.proofs.faults.bad_lines.Goals.{then-is_empty+in_ok-push-2, else-is_empty}
+use Rattle.p9_world.proofs.faults.bad_lines_from.Goals as goal
+use Rattle.p9_world.proofs.faults.bad_lines_from.Goals.{in-Some+in_ok-push, in_default}
+use Rattle.p9_world.proofs.faults.bad_lines_from.Goals.{then-is_empty+in_ok-push-2, else-is_empty}
 
 pub loop-statement-preserved : goal.loop-statement-preserved
 loop-statement-preserved g c =
@@ -40,13 +40,13 @@ returns g c =
     let same =
     ap (map statement_view) c.deref-statement-items.ensures.value
     ∙ c.in_ok-statements.ensures in
-    let count : length c.loop-statement.world.servers ≡ length c.world-2.inside.servers.items =
-    sym (ap (λ (w : World). length w.servers) c.world-2.view_is)
-    ∙ length-map c.world-2.inside.servers.items string_bytes in
+    let count : length c.loop-statement.world.servers ≡ length c.world.inside.servers.items =
+    sym (ap (λ (w : World). length w.servers) c.world.view_is)
+    ∙ length-map c.world.inside.servers.items string_bytes in
     elim c.if-is_empty.branch [
       | then-is_empty+in_ok-push-2 w ↦
           (let none : length c.loop-statement.world.servers ≡ 0 =
-          count ∙ sym c.world-2.inside.servers.ok.0
+          count ∙ sym c.world.inside.servers.ok.0
           ∙ is-zero c.is_empty.result _ c.is_empty.ensures w.if-is_empty.true in
           rw (w.found-is, w.in_ok-push-2.ensures.items)
           (first-with_none statement_view c.deref-statement-items.result.now c.args.text.now same
@@ -58,7 +58,7 @@ returns g c =
           omega (
             arith,
             count,
-            c.world-2.inside.servers.ok.0,
+            c.world.inside.servers.ok.0,
             is-positive c.is_empty.result _ c.is_empty.ensures w.if-is_empty.false,
           ) in
           rw w.found-is

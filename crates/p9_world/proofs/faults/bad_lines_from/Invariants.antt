@@ -4,7 +4,7 @@ use Rattle.p9_base.specs.Results.{try_fold}
 use Rattle.p9_world.specs.Read.{read_statement}
 use Rattle.p9_world.specs.World.{empty_world}
 use Rattle.p9_world.proofs.BadLines.{AreFound}
-use Rattle.p9_world.proofs.faults.bad_lines.Given as goal
+use Rattle.p9_world.proofs.faults.bad_lines_from.Given as goal
 
 -- as long as no line is bad, the statements that are left make of the world what all of them make of
 -- the empty one; else all of them come to the first bad line
