@@ -2,15 +2,16 @@
 use Rattle.std.proofs.Common.{◌≡◌, ◌==◌, ℕ, ◌+◌, ◌-◌, Bool, true, false, List, [], ◌∷◌, ◌++◌}
 use Rattle.std.proofs.Common.{Option, Some, None, Result, Ok, length, refl, sym, ap, ◌∙◌, subst}
 use Rattle.std.proofs.Common.{append_assoc, arith, ◌<◌, ◌≤◌, get_or, inl, inr, Bor, Err, OnOk}
-use Rattle.std.proofs.Common.{IfErr, drop, map, suc}
+use Rattle.std.proofs.Common.{IfErr, drop, map, suc, cond}
 use Rattle.std.specs.Prelude.{codes, nat_eq, nat_lt}
-use Rattle.std.specs.List.{enumerate_from, list_all, starts_with, before_first, position_or_len}
-use Rattle.std.specs.List.{after_first}
+use Rattle.std.specs.List.{count_by, enumerate_from, list_all, starts_with, before_first}
+use Rattle.std.specs.List.{position_or_len, after_first}
 use Rattle.std.proofs.Math.Seq.{drop-cons}
 use Rattle.std.proofs.lemmas.List.{get_or-map, length-map, drop_all, append-nil, length-append}
 use Rattle.std.proofs.lemmas.List.Splits.{length-slice_split, slice_split_first, slice_split_none}
 use Rattle.std.proofs.lemmas.Bool.Decides.{nat_tests}
-use Rattle.std.proofs.lemmas.List.Sums.{fails_before_first, passes_at_first, split_at_first}
+use Rattle.std.proofs.lemmas.List.Sums.{sum_by-append, fails_before_first, passes_at_first}
+use Rattle.std.proofs.lemmas.List.Sums.{split_at_first}
 use Rattle.p9_base.specs.Results.{try_fold}
 use Rattle.p9_base.specs.Line.{is_blank, lines_of}
 use Rattle.p9_prepared.specs.Bundle.{Reading, unread, AreSoFar, Begins, Ends, IsReadTo, IsSoFar}
@@ -97,19 +98,29 @@ part-more input bundle texts Cert part text are is of =
 part-more input bundle texts Script part text are is of =
     record { world = are.world; ns = are.ns; cert = are.cert; script = (is, of) }
 
--- a section that stands in the input does so without its last lines
-pub shorter-in : (input part rest text : List ℕ) (start : ℕ) → part ≡ text ++ rest
-    → ((before : List ℕ) × (after : List ℕ) × (input ≡ before ++ part ++ after) × (start ≡ length before))
-    → (before : List ℕ) × (after : List ℕ) × (input ≡ before ++ text ++ after) × (start ≡ length before)
-shorter-in input part rest text start is at = (
+-- a part with these bytes, at this place and line, stands in the input
+abbrev pub Stands : (input part : List ℕ) (start line : ℕ) → Type 0
+Stands input part start line =
+    (before : List ℕ) × (after : List ℕ) × (input ≡ before ++ part ++ after)
+    × (start ≡ length before) × (0 < length part → line ≡ count_by newline before + 1)
+
+-- it does so without its last lines
+shorter-in : (input part rest text : List ℕ) (start line : ℕ) → part ≡ text ++ rest
+    → Stands input part start line → Stands input text start line
+shorter-in input part rest text start line is at = (
   at.0,
   rest ++ at.1,
   at.2 ∙ ap (λ p. (at.0 ++ p) ++ at.1) is ∙ append_assoc at.0 (text ++ rest) at.1
       ∙ ap (λ t. at.0 ++ t) (append_assoc text rest at.1) ∙ sym (append_assoc at.0 text (rest ++ at.1)),
   at.3,
+  λ some. at.4 (omega (arith, some, ap length is, length-append text rest)),
 )
 
 -- One line more.
+
+count-append : (xs ys : List ℕ)
+    → count_by newline (xs ++ ys) ≡ count_by newline xs + count_by newline ys
+count-append xs ys = sum_by-append (λ x. cond (newline x) 1 0) xs ys
 
 lines_of-some : (text : List ℕ) → lines_of text ≡ [] → ⊥
 lines_of-some text none =
@@ -117,31 +128,72 @@ lines_of-some text none =
     let length_none : length (lines_of text) ≡ 0 = ap length none in
     absurd (omega (arith, some, length_none))
 
-module _ (input line : List ℕ) (left : List (List ℕ)) (rest : List ℕ)
-    (is : IsLeft input (line ∷ left) rest) where
+module _ (input : List ℕ) (number : ℕ) (line : List ℕ) (left : List (List ℕ)) (rest : List ℕ)
+    (is : IsLeft input number (line ∷ left) rest) where
   first : IsNext line left rest (behind rest)
   first = next-line rest line left is.1
 
-  -- what is behind the line stands at the end of the input
-  pub behind-in : (before : List ℕ) × (input ≡ before ++ behind rest)
-  behind-in =
-      elim first as (λ _. (before : List ℕ) × (input ≡ before ++ behind rest)) [
-        | more text lines ↦ (
-          is.0.0 ++ line ++ 10 ∷ [],
-          is.0.1 ∙ ap (λ t. is.0.0 ++ t) text ∙ sym (append_assoc is.0.0 line (10 ∷ behind rest))
-              ∙ sym (append_assoc (is.0.0 ++ line) (10 ∷ []) (behind rest)),
-        )
-        | last text lines none ↦ (input, sym (ap (λ r. input ++ r) none ∙ append-nil input))
-      ]
+  -- what is behind the line's newline stands at the end of the input, behind so many newlines
+  abbrev Behind : Type 0
+  Behind = (before : List ℕ) × (input ≡ before ++ behind rest) × (number ≡ count_by newline before)
 
-  pub behind-left : IsLeft input left (behind rest)
-  behind-left = by left first
+  more-in : rest ≡ line ++ 10 ∷ behind rest → lines_of (behind rest) ≡ left → Behind
+  more-in text lines =
+      let before : List ℕ = is.0.0 ++ line ++ 10 ∷ [] in
+      let whole : input ≡ before ++ behind rest =
+      is.0.1 ∙ ap (λ t. is.0.0 ++ t) text ∙ sym (append_assoc is.0.0 line (10 ∷ behind rest))
+      ∙ sym (append_assoc (is.0.0 ++ line) (10 ∷ []) (behind rest)) in
+      let count : count_by newline (is.0.0 ++ rest) ≡ count_by newline (before ++ behind rest) =
+      ap (count_by newline) (sym is.0.1 ∙ whole) in
+      let all : length (lines_of rest) ≡ length (line ∷ left) = ap length is.1 in
+      let others : length (lines_of (behind rest)) ≡ length left = ap length lines in (
+        before,
+        whole,
+        omega (
+          arith,
+          is.0.2,
+          count,
+          count-append is.0.0 rest,
+          count-append before (behind rest),
+          length-slice_split newline rest,
+          length-slice_split newline (behind rest),
+          all,
+          others,
+        ),
+      )
+
+  -- what is behind the line does, and has a byte only where the line has a newline
+  behind-in : (before : List ℕ) × (input ≡ before ++ behind rest)
+      × (0 < length (behind rest) → number ≡ count_by newline before)
+  behind-in =
+      elim first as (λ _. (before : List ℕ) × (input ≡ before ++ behind rest)
+      × (0 < length (behind rest) → number ≡ count_by newline before)) [
+        | more text lines ↦ (
+          (more-in text lines).0,
+          (more-in text lines).1,
+          λ some. (more-in text lines).2,
+        )
+        | last text lines none ↦ (
+          input,
+          sym (ap (λ r. input ++ r) none ∙ append-nil input),
+          λ some. absurd (no-byte (behind rest) none some),
+        )
+      ]
+    where
+      no-byte : (xs : List ℕ) → xs ≡ [] → 0 < length xs → ⊥
+      no-byte [] none some = omega (arith, some)
+      no-byte (x ∷ xs) none some = absurd (cc)
+
+  behind-left : IsLeft input (number + 1) left (behind rest)
+  behind-left = by left first more-in
     where
       by : (left : List (List ℕ)) → IsNext line left rest (behind rest)
-          → IsLeft input left (behind rest)
-      by [] next = tt
-      by (l ∷ ls) (more text lines) = (behind-in, lines)
-      by (l ∷ ls) (last text lines none) = absurd (cc)
+          → (rest ≡ line ++ 10 ∷ behind rest → lines_of (behind rest) ≡ left → Behind)
+          → IsLeft input (number + 1) left (behind rest)
+      by [] next found = tt
+      by (l ∷ ls) (more text lines) found =
+          let at = found text lines in ((at.0, at.1, ap (λ n. n + 1) at.2), lines)
+      by (l ∷ ls) (last text lines none) found = absurd (cc)
 
   -- the text of the section that was begun last has the line too
   pub behind-text : (part text : List ℕ) → part ≡ text ++ rest
@@ -185,7 +237,7 @@ module _ (number : ℕ) (line : List ℕ) (bundle : Bundle) (rest after : Bor (L
   reads-text None plain blank input left texts read = (
     texts,
     rw (plain, blank refl) refl,
-    (read.0, rw is (behind-left input line left rest.now read.1), read.2),
+    (read.0, rw is (behind-left input number line left rest.now read.1), read.2),
   )
   reads-text (Some (section, part)) plain blank input left texts read =
       let so = read.2 in (
@@ -193,14 +245,14 @@ module _ (number : ℕ) (line : List ℕ) (bundle : Bundle) (rest after : Bor (L
         rw plain refl,
         (
           read.0,
-          rw is (behind-left input line left rest.now read.1),
+          rw is (behind-left input number line left rest.now read.1),
           (
             so.0,
             with_line line so.1,
             so.2,
             ap (with_line_in section line) so.3 ∙ more-text section line so.1 so.0,
             so.4,
-            rw is (behind-text input line left rest.now read.1 part.text.now so.1 so.5),
+            rw is (behind-text input number line left rest.now read.1 part.text.now so.1 so.5),
           ),
         ),
       )
@@ -211,42 +263,45 @@ module _ (number : ℕ) (line : List ℕ) (bundle : Bundle) (rest after : Bor (L
       → Ends rest.now begun bundle next → ArePartsOf input next texts
   ended None input left texts next so ends = rw ends so
   ended (Some (section, part)) input left texts next so ends =
-      let same : ends.0.text.now ≡ so.1 = ends.3 so.1 so.5 in
+      let same : ends.0.text.now ≡ so.1 = ends.4 so.1 so.5 in
       let at : IsIn input ends.0 =
-      rw (same, ends.2) (shorter-in input part.text.now rest.now so.1 part.start so.5 so.4) in
+      rw (same, ends.2, ends.3)
+      (shorter-in input part.text.now rest.now so.1 part.start part.line so.5 so.4) in
       rw (ends.1, so.3)
       (part-more input bundle so.0 section ends.0 so.1 so.2 at (inl (sym same)))
 
   -- it begins a section
   pub reads-begin : (was : Option (Section × Part)) (section : Option Section) (next : Reader)
       → starts_with nat_eq line (codes "%%") ≡ true → section_of line ≡ section
-      → Begins section rest.now (new was) next → Reads number line (old was) next
+      → Begins number section rest.now (new was) next → Reads number line (old was) next
   reads-begin was None after_it marked of begins input left texts read = absurd begins
   reads-begin was (Some section) after_it marked of begins input left texts read = (
     with_section section texts,
     rw (marked, of, begins.0, begins.4) refl,
     (
       begins.3 ∙ read.0,
-      rw (begins.2, is) (behind-left input line left rest.now read.1),
+      rw (begins.2, is) (behind-left input number line left rest.now read.1),
       rw (begins.2, begins.4) (
         texts,
         [],
         ended was input left texts after_it.bundle read.2 begins.1,
         begun-text section texts,
         stands,
-        rw is (behind-none input line left rest.now read.1),
+        rw is (behind-none input number line left rest.now read.1),
       ),
     ),
   )
     where
-      stands : IsIn input (record { text = after; start = len - length after.now })
+      stands : IsIn input
+          (record { text = after; start = len - length after.now; line = number + 1 })
       stands =
-          let end = behind-in input line left rest.now read.1 in
+          let end = behind-in input number line left rest.now read.1 in
           let whole : input ≡ end.0 ++ after.now = rw is end.1 in (
             end.0,
             [],
             whole ∙ sym (append-nil (end.0 ++ after.now)),
             omega (arith, read.0, ap length whole, length-append end.0 after.now),
+            λ some. ap (λ n. n + 1) (end.2 (subst (λ a. 0 < length a) is some)),
           )
 
   -- it is bad
@@ -304,7 +359,7 @@ module _ (input : List ℕ) (items : List (Bor (List ℕ))) (same : map (λ line
   Kept reader i texts =
       (try_fold with_numbered_line (reading_of reader texts)
       (drop i (enumerate_from 1 (lines_of input))) ≡ all)
-      × IsReadTo input (drop i (lines_of input)) reader texts
+      × IsReadTo input (i + 1) (drop i (lines_of input)) reader texts
 
   -- a line more is read
   pub kept-more : (d : Bor (List ℕ)) (after : Reader) → i < length items
@@ -313,7 +368,7 @@ module _ (input : List ℕ) (items : List (Bor (List ℕ))) (same : map (λ line
   kept-more d after l reads kept =
       let step =
       reads input (drop (i + 1) (lines_of input)) texts
-      (subst (λ left. IsReadTo input left reader texts) (left-at d l) kept.1) in (
+      (subst (λ left. IsReadTo input (i + 1) left reader texts) (left-at d l) kept.1) in (
         step.0,
         (
           line-read items (lines_of input) same (reading_of reader texts) i d
@@ -324,10 +379,10 @@ module _ (input : List ℕ) (items : List (Bor (List ℕ))) (same : map (λ line
 
   -- no line is left
   pub kept-end : length items ≤ i → Kept reader i texts
-      → (all ≡ Ok (reading_of reader texts)) × IsReadTo input [] reader texts
+      → (all ≡ Ok (reading_of reader texts)) × IsReadTo input (i + 1) [] reader texts
   kept-end end kept = (
     lines-end items (lines_of input) same (reading_of reader texts) i all end kept.0,
-    subst (λ left. IsReadTo input left reader texts)
+    subst (λ left. IsReadTo input (i + 1) left reader texts)
         (drop_all i (lines_of input) (omega (arith, end, length-map items (λ line. line.now), ap length same)))
         kept.1,
   )

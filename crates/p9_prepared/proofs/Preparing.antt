@@ -1,5 +1,6 @@
 -- What an input comes to, by its parts.
-use Rattle.std.proofs.Common.{◌≡◌, ◌∙◌, ℕ, List, Result, Ok, Err, ap, refl, sym, true}
+use Rattle.std.proofs.Common.{◌≡◌, ◌∙◌, ℕ, List, Option, Result, Ok, Err, ap, refl, subst}
+use Rattle.std.proofs.Common.{sym, true}
 use Rattle.std.specs.Str.{is_utf8}
 use Rattle.p9_base.specs.declared.stop.Stop.{Stop}
 use Rattle.p9_base.specs.declared.stop.Stop.TheVariants.{Refused, NoMemory}
@@ -25,24 +26,29 @@ pub opened-found : (input : List ℕ) (found : Texts × NameSpace) → opened in
 opened-found input found is = rw is refl
 
 -- an input is opened by what its sections say
-module _ (input : List ℕ) (seen texts : Texts) (utf8 : is_utf8 input ≡ true)
-    (is : bundle_of input ≡ Ok texts) (same : SameStatements seen texts) where
-  opened-by : (found : Result NameSpace Refusal) → space_in seen.world seen.ns ≡ found →
+module _ (input text : List ℕ) (seen texts : Texts) (whole : text ≡ input)
+    (utf8 : is_utf8 input ≡ true) (is : bundle_of text ≡ Ok texts)
+    (same : SameStatements seen texts) (world ns : Option (List ℕ)) (w : world ≡ seen.world)
+    (n : ns ≡ seen.ns) where
+  opened-by : (found : Result NameSpace Refusal) → space_in world ns ≡ found →
       opened input
       ≡ and_then found
       (λ space. let both : Result (Texts × NameSpace) Refusal = Ok (texts, space) in both)
   unfolding need
   opened-by found space =
-      rw (utf8, is)
+      let read : bundle_of input ≡ Ok texts = subst (λ t. bundle_of t ≡ Ok texts) whole is in
+      let made : space_in texts.world texts.ns ≡ found =
+      space_in-same texts.world seen.world texts.ns seen.ns (sym same.world) (sym same.ns)
+      ∙ ap (λ o. space_in o seen.ns) (sym w) ∙ ap (space_in world) (sym n) ∙ space in
+      rw (utf8, read)
       (ap (λ made. and_then made
-      (λ space. let both : Result (Texts × NameSpace) Refusal = Ok (texts, space) in both))
-      (space_in-same texts.world seen.world texts.ns seen.ns (sym same.world) (sym same.ns) ∙ space))
+      (λ space. let both : Result (Texts × NameSpace) Refusal = Ok (texts, space) in both)) made)
 
-  pub opened-ok : (space : NameSpace) → space_in seen.world seen.ns ≡ Ok space
+  pub opened-ok : (space : NameSpace) → space_in world ns ≡ Ok space
       → opened input ≡ Ok (texts, space)
   opened-ok space found = opened-by (Ok space) found
 
-  pub opened-stop : (stop : Stop Refusal) → IsStop (space_in seen.world seen.ns) stop
+  pub opened-stop : (stop : Stop Refusal) → IsStop (space_in world ns) stop
       → IsStop (opened input) stop
   opened-stop NoMemory stopped = tt
   opened-stop (Refused refusal) stopped = opened-by (Err refusal) stopped

@@ -1,7 +1,8 @@
 -- Bundles: the program's input, in sections.
-use Rattle.std.specs.Prelude.{◌≡◌, ℕ, ◌-◌, ◌⊎◌, nat_eq, List, [], ◌∷◌, ◌++◌, Option, Some, length, true}
+use Rattle.std.specs.Prelude.{◌≡◌, ◌==◌, ◌<◌, ℕ, ◌+◌, ◌-◌, ◌⊎◌, nat_eq, List, [], ◌∷◌, ◌++◌}
+use Rattle.std.specs.Prelude.{Option, Some, length, true}
 use Rattle.std.specs.Prelude.{None, Result, Ok, Err, codes, if◌then◌else◌}
-use Rattle.std.specs.List.{enumerate_from, list_all, starts_with}
+use Rattle.std.specs.List.{count_by, enumerate_from, list_all, starts_with}
 use Rattle.std.specs.Option.{option_map}
 use Rattle.p9_base.specs.Line.{is_blank, lines_of}
 use Rattle.p9_base.specs.Results.{and_then, try_fold}
@@ -94,11 +95,13 @@ bundle_view bundle = record {
   script = part_view bundle.script;
 }
 
--- a part stands in the input, and so many bytes are before it as its place says
+-- a part stands in the input, so many bytes are before it as its place says, and, if it has any, so
+-- many newlines as there are lines before its first one
 abbrev pub IsIn : List ℕ → Part → Type 0
 IsIn input part =
     (before : List ℕ) × (after : List ℕ) × (input ≡ before ++ part.text.now ++ after)
     × (part.start ≡ length before)
+    × (0 < length part.text.now → part.line ≡ count_by (λ b. b == 10) before + 1)
 
 -- the text of the lines of a part: the part, or, since each line of a text has a newline, the part
 -- and the newline that the input's last line lacks
@@ -162,25 +165,28 @@ AreSoFar input left rest bundle (Some begun) texts =
     × (texts ≡ with_text begun.0 text before) × IsIn input begun.1
     × IsSoFar left rest begun.1.text.now text
 
--- these lines are left of the input, and the rest is what they are in it
-abbrev pub IsLeft : List ℕ → List (List ℕ) → List ℕ → Type 0
-IsLeft input [] rest = Unit {0}
-IsLeft input (line ∷ left) rest =
-    ((before : List ℕ) × (input ≡ before ++ rest)) × (lines_of rest ≡ line ∷ left)
+-- these lines are left of the input, the first of which has this number, and the rest is what they
+-- are in it
+abbrev pub IsLeft : List ℕ → (number : ℕ) → List (List ℕ) → List ℕ → Type 0
+IsLeft input number [] rest = Unit {0}
+IsLeft input number (line ∷ left) rest =
+    ((before : List ℕ) × (input ≡ before ++ rest)
+    × (number ≡ count_by (λ b. b == 10) before + 1)) × (lines_of rest ≡ line ∷ left)
 
--- an input is read up to these lines, with these texts of its sections so far
-abbrev pub IsReadTo : List ℕ → List (List ℕ) → Reader → Texts → Type 0
-IsReadTo input left reader texts =
-    (reader.len ≡ length input) × IsLeft input left reader.rest.now
+-- an input is read up to these lines, from this number on, with these texts of its sections so far
+abbrev pub IsReadTo : List ℕ → (number : ℕ) → List (List ℕ) → Reader → Texts → Type 0
+IsReadTo input number left reader texts =
+    (reader.len ≡ length input) × IsLeft input number left reader.rest.now
     × AreSoFar input left reader.rest.now reader.bundle reader.begun texts
 
 -- a line is read as it is read into the texts
 abbrev pub Reads : (number : ℕ) → List ℕ → (old new : Reader) → Type 0
 Reads number line old new =
-    (input : List ℕ) (left : List (List ℕ)) (texts : Texts) → IsReadTo input (line ∷ left) old texts
+    (input : List ℕ) (left : List (List ℕ)) (texts : Texts)
+    → IsReadTo input number (line ∷ left) old texts
     → (next : Texts)
     × (with_numbered_line (reading_of old texts) (number, line) ≡ Ok (reading_of new next))
-    × IsReadTo input left new next
+    × IsReadTo input (number + 1) left new next
 
 -- an error is that with which a line is not read into the texts
 abbrev pub IsFaultOf : (number : ℕ) → List ℕ → Reader → BundleError → Type 0
@@ -193,13 +199,17 @@ abbrev pub Ends : List ℕ → Option (Section × Part) → (old new : Bundle) �
 Ends left None old new = new ≡ old
 Ends left (Some begun) old new =
     (part : Part) × (new ≡ with_part begun.0 part old) × (part.start ≡ begun.1.start)
+    × (part.line ≡ begun.1.line)
     × ((text : List ℕ) → begun.1.text.now ≡ text ++ left → part.text.now ≡ text)
 
 -- a section is begun, which may be there, with the rest as its part
-abbrev pub Begins : Option Section → List ℕ → (old new : Reader) → Type 0
-Begins None left old new = ⊥
-Begins (Some section) left old new =
+abbrev pub Begins : (number : ℕ) → Option Section → List ℕ → (old new : Reader) → Type 0
+Begins number None left old new = ⊥
+Begins number (Some section) left old new =
     (may_follow (last_of old) section ≡ true) × Ends left old.begun old.bundle new.bundle
     × (new.rest ≡ old.rest) × (new.len ≡ old.len)
     × (new.begun
-    ≡ Some (section, record { text = old.rest; start = old.len - length old.rest.now }))
+    ≡ Some (
+      section,
+      record { text = old.rest; start = old.len - length old.rest.now; line = number + 1 },
+    ))

@@ -1,7 +1,7 @@
 //! Bundles: the program's input, in sections.
 
-ghost use Rattle.std.specs.Prelude.{◌≡◌, ◌==◌, ℕ, List, [], ◌++◌, IfErr, IfOk, None, Ok, OnOk};
-ghost use Rattle.std.specs.Prelude.{true};
+ghost use Rattle.std.specs.Prelude.{◌≡◌, ◌==◌, ◌<◌, ◌-◌, ◌^◌, ℕ, List, [], ◌++◌, IfErr, IfOk};
+ghost use Rattle.std.specs.Prelude.{None, Ok, OnOk, true};
 ghost use Rattle.std.specs.List.{after_first, list_all};
 ghost use Rattle.p9_base.specs.Line.{is_blank, lines_of};
 ghost use Rattle.p9_prepared.specs.Bundle.{ArePartsOf, Begins, Ends, IsBundleFault, IsFaultOf};
@@ -31,6 +31,8 @@ pub struct Part<'a> {
     pub text: &'a str,
     /// The place of their first byte in the input.
     pub start: usize,
+    /// The number of the first of them in the input, from 1.
+    pub line: u64,
 }
 
 /// The sections of a bundle, each as it is in the input, or `None` where it isn't there.
@@ -58,7 +60,7 @@ struct Reader<'a> {
 impl<'a> Reader<'a> {
     // Nothing is read yet.
     fn new(input: &'a str) -> Reader<'a>
-        ensures unread { IsReadTo input.now (lines_of input.now) result unread.texts }
+        ensures unread { IsReadTo input.now 1 (lines_of input.now) result unread.texts }
         ensures last { last_of result ≡ None }
     {
         Reader {
@@ -76,6 +78,7 @@ impl<'a> Reader<'a> {
 
     // Reads the line of this number, which is the next one.
     fn read_line(&mut self, number: u64, line: &str) -> Result<(), BundleError>
+        requires { number < 2 ^ 64 - 1 }
         ensures ok { OnOk result (Reads number line.now self.old self.new) }
         ensures bad { IfErr result (IsFaultOf number line.now self.old) }
     {
@@ -95,7 +98,8 @@ impl<'a> Reader<'a> {
         section: Option<Section>,
         left: &str,
     ) -> Result<(), BundleError>
-        ensures ok { OnOk result (Begins section left.now self.old self.new) }
+        requires { number < 2 ^ 64 - 1 }
+        ensures ok { OnOk result (Begins number section left.now self.old self.new) }
         ensures bad { IfErr result (λ error. (texts : Texts)
             → IsBundleFault (begun (reading_of self.old texts) number section) error) }
     {
@@ -112,6 +116,7 @@ impl<'a> Reader<'a> {
             Part {
                 text: self.rest,
                 start,
+                line: number + 1,
             },
         ));
         Ok(())
@@ -151,8 +156,8 @@ impl<'a> Reader<'a> {
 
     // The sections, where no line is left.
     fn bundle(self) -> Bundle<'a>
-        ensures { (input : List ℕ) (texts : Texts) → IsReadTo input [] self.entry texts
-            → ArePartsOf input result texts }
+        ensures { (input : List ℕ) (number : ℕ) (texts : Texts)
+            → IsReadTo input number [] self.entry texts → ArePartsOf input result texts }
     {
         match self.begun {
             Some((section, part)) => self.bundle.with_part(section, part),
@@ -186,12 +191,14 @@ impl<'a> Part<'a> {
     // The part before these lines, with which it ends.
     fn without(self, lines: &str) -> Part<'a>
         ensures start { result.start ≡ self.entry.start }
+        ensures line { result.line ≡ self.entry.line }
         ensures text { (text : List ℕ) → self.entry.text.now ≡ text ++ lines.now
             → result.text.now ≡ text }
     {
         Part {
             text: self.text.strip_suffix(lines).unwrap_or(self.text),
             start: self.start,
+            line: self.line,
         }
     }
 }

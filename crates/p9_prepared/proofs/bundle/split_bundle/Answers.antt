@@ -1,4 +1,4 @@
-use Rattle.std.proofs.Common.{Result, Ok, map, ap, ◌∙◌, arith}
+use Rattle.std.proofs.Common.{◌+◌, Result, Ok, map, ap, ◌∙◌, arith}
 use Rattle.std.specs.List.{enumerate_from}
 use Rattle.std.proofs.lemmas.Result.{err_from_is_err_and}
 use Rattle.p9_base.specs.Line.{lines_of}
@@ -45,5 +45,5 @@ returns-clause-ok g c =
       kept.0,
       ap (λ all. and_then all
           (λ (reading : Reading). let read : Result Texts _ = Ok reading.texts in read)) end.0,
-      c.bundle.ensures c.args.text.now kept.0 end.1,
+      c.bundle.ensures c.args.text.now (c.loop-position.position + 1) kept.0 end.1,
     )

@@ -1,4 +1,4 @@
-use Rattle.std.proofs.Common.{◌≡◌, drop}
+use Rattle.std.proofs.Common.{◌≡◌, ◌+◌, drop}
 use Rattle.std.specs.List.{enumerate_from}
 use Rattle.p9_base.specs.Line.{lines_of}
 use Rattle.p9_base.specs.Results.{try_fold}
@@ -14,4 +14,4 @@ invariant-loop-position g l =
     × (try_fold with_numbered_line (reading_of l.reader texts)
     (drop l.position (enumerate_from 1 lines))
     ≡ try_fold with_numbered_line unread (enumerate_from 1 lines))
-    × IsReadTo l.fn.text (drop l.position lines) l.reader texts
+    × IsReadTo l.fn.text (l.position + 1) (drop l.position lines) l.reader texts
