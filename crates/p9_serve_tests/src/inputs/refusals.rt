@@ -133,7 +133,7 @@ const EXPLAINED: [Run; 5] = [
     Run {
         word: "explain",
         input: UNSEALED,
-        out: "refused: cert:1: bad line\nmine:10, cert:1: bad line: 'cert 1' is to be the first\n",
+        out: "refused: cert:1: bad line\nmine:10, cert:1: bad line 'none': 'cert 1' is to be the first\n",
         refused_out: "",
         err: "",
         status: 1,
