@@ -27,7 +27,8 @@ pub struct Classes {
 impl Classes {
     /// Those who may search the directory, or rule it and so may come to search it.
     pub fn to_pass<A: Allocator>(dir: &Node<A>) -> Classes
-        ensures { (who : Who) → is_of result dir.now who ≡ may_pass dir.now who }
+        ensures who { (who : Who) → is_of result dir.now who ≡ may_pass dir.now who }
+        ensures others { result.others ≡ dir.now.mode.permissions.others.execute }
     {
         let permissions = dir.mode().permissions;
         Classes {

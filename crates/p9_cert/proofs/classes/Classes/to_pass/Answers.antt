@@ -4,8 +4,8 @@ use Rattle.p9_space.specs.Rights.{Who}
 use Rattle.p9_cert.proofs.ByClass.{pass-by-classes}
 use Rattle.p9_cert.proofs.classes.Classes.to_pass.Goals as goal
 
-pub returns : goal.returns
-returns g c =
+pub returns-clause-who : goal.returns-clause-who
+returns-clause-who g c =
     let n = c.args.dir.now in
     λ (who : Who). rw c.mode.ensures
     (pass-by-classes n.mode.permissions (bytes_eq n.uid who.user) (is_member who.groups n.gid who.user)

@@ -12,5 +12,5 @@ returns-then-is_dir g c =
     let users = c.args.self.users.now in
     let groups = c.args.self.groups.now in
     let dir : is_dir n ≡ true = sym c.is_dir.ensures ∙ c.if-is_dir.true in
-    c.is_one_of.ensures ∙ some-same users groups (is_of c.to_pass.result n) (may_pass n) c.to_pass.ensures
+    c.is_one_of.ensures ∙ some-same users groups (is_of c.to_pass.result n) (may_pass n) c.to_pass.ensures.who
     ∙ sym (ap (λ b. b && some_listed users groups (may_pass n)) dir)

@@ -12,7 +12,7 @@ returns-then-is_dir g c =
     let users = c.args.world.now.users in
     let groups = c.args.world.now.groups in
     let dir : is_dir n ≡ true = sym c.is_dir.ensures ∙ c.if-is_dir.true in
-    c.has_one_of.ensures ∙ some-same users groups (is_of c.to_pass.result n) (may_pass n) c.to_pass.ensures
+    c.has_one_of.ensures ∙ some-same users groups (is_of c.to_pass.result n) (may_pass n) c.to_pass.ensures.who
     ∙ sym (ap (λ b. b && some_listed users groups (may_pass n)) dir)
 
 pub returns-else-is_dir : goal.returns-else-is_dir
