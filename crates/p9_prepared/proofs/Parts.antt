@@ -1,25 +1,28 @@
 -- The sections of an input as parts of it.
 use Rattle.std.proofs.Common.{◌≡◌, ◌==◌, ℕ, ◌+◌, ◌-◌, Bool, true, false, List, [], ◌∷◌, ◌++◌}
 use Rattle.std.proofs.Common.{Option, Some, None, Result, Ok, length, refl, sym, ap, ◌∙◌, subst}
-use Rattle.std.proofs.Common.{append_assoc, arith, ◌<◌, ◌≤◌, get_or, inl, inr, Bor, Err, OnOk}
-use Rattle.std.proofs.Common.{IfErr, drop, map, suc, cond}
+use Rattle.std.proofs.Common.{append_assoc, arith, ◌<◌, ◌≤◌, get_or, Bor, Err, OnOk, cond}
+use Rattle.std.proofs.Common.{IfErr, drop, map, suc}
 use Rattle.std.specs.Prelude.{codes, nat_eq, nat_lt}
-use Rattle.std.specs.List.{count_by, enumerate_from, list_all, starts_with, before_first}
-use Rattle.std.specs.List.{position_or_len, after_first}
+use Rattle.std.specs.List.{after_first, before_first, enumerate_from, flat_map, join_with_byte}
+use Rattle.std.specs.List.{list_all, position_or_len, starts_with}
+use Rattle.std.specs.Str.{bytes_eq}
 use Rattle.std.proofs.Math.Seq.{drop-cons}
 use Rattle.std.proofs.lemmas.List.{get_or-map, length-map, drop_all, append-nil, length-append}
-use Rattle.std.proofs.lemmas.List.Splits.{length-slice_split, slice_split_first, slice_split_none}
+use Rattle.std.proofs.lemmas.List.Concat.{flat_map-append}
 use Rattle.std.proofs.lemmas.Bool.Decides.{nat_tests}
-use Rattle.std.proofs.lemmas.List.Sums.{sum_by-append, fails_before_first, passes_at_first}
-use Rattle.std.proofs.lemmas.List.Sums.{split_at_first}
+use Rattle.std.proofs.lemmas.List.Splits.{join_with_byte-slice_split, length-slice_split}
+use Rattle.std.proofs.lemmas.List.Splits.{slice_split_first, slice_split_none}
+use Rattle.std.proofs.lemmas.List.Sums.{fails_before_first, passes_at_first, split_at_first}
+use Rattle.std.proofs.lemmas.Slice.Eq.{bytes_eq-Decides}
 use Rattle.p9_base.specs.Results.{try_fold}
 use Rattle.p9_base.specs.Line.{is_blank, lines_of}
-use Rattle.p9_prepared.specs.Bundle.{Reading, unread, AreSoFar, Begins, Ends, IsReadTo, IsSoFar}
+use Rattle.p9_prepared.specs.Bundle.{Reading, unread, AreSoFar, Begins, Ends, IsReadTo}
 use Rattle.p9_prepared.specs.Bundle.{Reads, with_numbered_line, last_of, reading_of, begun}
-use Rattle.p9_prepared.specs.Bundle.{continued, IsBundleFault, IsFaultOf, ArePartsOf, IsIn, IsLeft}
-use Rattle.p9_prepared.specs.Bundle.{IsTextOf, Texts, with_line, with_line_in, with_part}
-use Rattle.p9_prepared.specs.Bundle.{with_section, with_text}
-use Rattle.p9_prepared.specs.Section.{section_of}
+use Rattle.p9_prepared.specs.Bundle.{continued, IsBundleFault, IsFaultOf, ArePartsOf, IsAt, IsRest}
+use Rattle.p9_prepared.specs.Bundle.{IsPart, Texts, ended, in_input, with_line, with_line_in}
+use Rattle.p9_prepared.specs.Bundle.{with_part, with_section, with_text}
+use Rattle.p9_prepared.specs.Section.{head_of, section_of}
 use Rattle.p9_prepared.specs.declared.bundle.Reader.{Reader}
 use Rattle.p9_prepared.specs.declared.bundle.BundleError.{BundleError}
 use Rattle.p9_prepared.specs.declared.bundle.Bundle.{Bundle}
@@ -66,6 +69,101 @@ next-line text line left is = by (nat_lt (position_or_len newline text) (length 
         (λ k d l. fails_before_first newline text k d (omega arith))) ∙ is in
         last (cc) (cc) (drop_all (position_or_len newline text + 1) text (omega arith))
 
+-- Lines, with their newlines.
+
+abbrev joined : List (List ℕ) → List ℕ
+joined lines = join_with_byte 10 lines
+
+-- some lines, before others
+pub joined-append : (lines left : List (List ℕ))
+    → joined (lines ++ left) ≡ in_input lines left ++ joined left
+joined-append lines [] = ap joined (append-nil lines) ∙ sym (append-nil (joined lines))
+joined-append [] (x ∷ xs) = refl
+joined-append (line ∷ []) (x ∷ xs) =
+    sym (append_assoc line (10 ∷ []) (joined (x ∷ xs)))
+    ∙ ap (λ l. l ++ joined (x ∷ xs)) (sym (append-nil (ended line)))
+joined-append (line ∷ next ∷ lines) (x ∷ xs) =
+    ap (λ l. line ++ 10 ∷ l) (joined-append (next ∷ lines) (x ∷ xs))
+    ∙ sym (append_assoc line (10 ∷ []) (flat_map ended (next ∷ lines) ++ joined (x ∷ xs)))
+    ∙ sym (append_assoc (ended line) (flat_map ended (next ∷ lines)) (joined (x ∷ xs)))
+
+-- all of them, with a newline more
+pub joined-ended : (line : List ℕ) (lines : List (List ℕ))
+    → joined (line ∷ lines) ++ 10 ∷ [] ≡ flat_map ended (line ∷ lines)
+joined-ended line [] = sym (append-nil (ended line))
+joined-ended line (next ∷ lines) =
+    append_assoc line (10 ∷ joined (next ∷ lines)) (10 ∷ [])
+    ∙ ap (λ l. line ++ 10 ∷ l) (joined-ended next lines)
+    ∙ sym (append_assoc line (10 ∷ []) (flat_map ended (next ∷ lines)))
+
+-- one line more, with its newline
+ended-more : (lines : List (List ℕ)) (line : List ℕ)
+    → with_line line (flat_map ended lines) ≡ flat_map ended (lines ++ line ∷ [])
+ended-more lines line =
+    append_assoc (flat_map ended lines) line (10 ∷ [])
+    ∙ ap (λ l. flat_map ended lines ++ l) (sym (append-nil (ended line)))
+    ∙ sym (flat_map-append ended lines (line ∷ []))
+
+-- one of the lines that are left is the last of those before the others
+line-moves : (lines left : List (List ℕ)) (line : List ℕ)
+    → lines ++ line ∷ left ≡ (lines ++ line ∷ []) ++ left
+line-moves lines left line = sym (append_assoc lines (line ∷ []) left)
+
+lines_of-some : (text : List ℕ) → lines_of text ≡ [] → ⊥
+lines_of-some text none =
+    let some = length-slice_split newline text in
+    let length_none : length (lines_of text) ≡ 0 = ap length none in
+    absurd (omega (arith, some, length_none))
+
+-- a text is what all its lines are
+pub rest-whole : (text : List ℕ) → IsRest (lines_of text) text
+rest-whole text = by (lines_of text) refl
+  where
+    by : (lines : List (List ℕ)) → lines_of text ≡ lines → IsRest lines text
+    by [] none = absurd (lines_of-some text none)
+    by (line ∷ lines) is = is
+
+-- what is left of a text behind its first line
+behind-line : (line text after : List ℕ) (left : List (List ℕ)) → after ≡ behind text
+    → IsRest (line ∷ left) text → IsRest left after
+behind-line line text after left is rest =
+    rw is (by left (next-line text line left rest))
+  where
+    by : (left : List (List ℕ)) → IsNext line left text (behind text) → IsRest left (behind text)
+    by [] (more all lines) = absurd (lines_of-some (behind text) lines)
+    by [] (last all lines none) = none
+    by (l ∷ ls) (more all lines) = lines
+    by (l ∷ ls) (last all lines none) = absurd (cc)
+
+-- it is the lines that are left
+rest-joined : (left : List (List ℕ)) (rest : List ℕ) → IsRest left rest → rest ≡ joined left
+rest-joined [] rest is = is
+rest-joined (line ∷ left) rest is = sym (join_with_byte-slice_split 10 rest) ∙ ap joined is
+
+-- the line that begins a section
+head-by : (w n c s : Bool) (line : List ℕ) (section : Section)
+    → bytes_eq line (head_of World) ≡ w → bytes_eq line (head_of Ns) ≡ n
+    → bytes_eq line (head_of Cert) ≡ c → bytes_eq line (head_of Script) ≡ s
+    → cond w (Some World) (cond n (Some Ns) (cond c (Some Cert) (cond s (Some Script) None)))
+    ≡ Some section → bytes_eq line (head_of section) ≡ true
+head-by true n c s line section is_w is_n is_c is_s e =
+    let found : World ≡ section = cc in subst (λ x. bytes_eq line (head_of x) ≡ true) found is_w
+head-by false true c s line section is_w is_n is_c is_s e =
+    let found : Ns ≡ section = cc in subst (λ x. bytes_eq line (head_of x) ≡ true) found is_n
+head-by false false true s line section is_w is_n is_c is_s e =
+    let found : Cert ≡ section = cc in subst (λ x. bytes_eq line (head_of x) ≡ true) found is_c
+head-by false false false true line section is_w is_n is_c is_s e =
+    let found : Script ≡ section = cc in subst (λ x. bytes_eq line (head_of x) ≡ true) found is_s
+head-by false false false false line section is_w is_n is_c is_s e = absurd (cc)
+
+begins-head : (line : List ℕ) (section : Section) → section_of line ≡ Some section
+    → line ≡ head_of section
+begins-head line section is =
+    (bytes_eq-Decides line (head_of section)).0
+    (head-by (bytes_eq line (head_of World)) (bytes_eq line (head_of Ns))
+    (bytes_eq line (head_of Cert)) (bytes_eq line (head_of Script)) line section refl refl refl
+    refl is)
+
 -- The sections so far.
 
 -- a section's text is begun
@@ -87,138 +185,16 @@ more-text Script line text texts = refl
 
 -- a section more is a part
 pub part-more : (input : List ℕ) (bundle : Bundle) (texts : Texts) (section : Section) (part : Part)
-    (text : List ℕ) → ArePartsOf input bundle texts → IsIn input part → IsTextOf part.text.now text
+    (text : List ℕ) → ArePartsOf input bundle texts → IsPart input section part text
     → ArePartsOf input (with_part section part bundle) (with_text section text texts)
-part-more input bundle texts World part text are is of =
-    record { world = (is, of); ns = are.ns; cert = are.cert; script = are.script }
-part-more input bundle texts Ns part text are is of =
-    record { world = are.world; ns = (is, of); cert = are.cert; script = are.script }
-part-more input bundle texts Cert part text are is of =
-    record { world = are.world; ns = are.ns; cert = (is, of); script = are.script }
-part-more input bundle texts Script part text are is of =
-    record { world = are.world; ns = are.ns; cert = are.cert; script = (is, of) }
-
--- a part with these bytes, at this place and line, stands in the input
-abbrev pub Stands : (input part : List ℕ) (start line : ℕ) → Type 0
-Stands input part start line =
-    (before : List ℕ) × (after : List ℕ) × (input ≡ before ++ part ++ after)
-    × (start ≡ length before) × (0 < length part → line ≡ count_by newline before + 1)
-
--- it does so without its last lines
-shorter-in : (input part rest text : List ℕ) (start line : ℕ) → part ≡ text ++ rest
-    → Stands input part start line → Stands input text start line
-shorter-in input part rest text start line is at = (
-  at.0,
-  rest ++ at.1,
-  at.2 ∙ ap (λ p. (at.0 ++ p) ++ at.1) is ∙ append_assoc at.0 (text ++ rest) at.1
-      ∙ ap (λ t. at.0 ++ t) (append_assoc text rest at.1) ∙ sym (append_assoc at.0 text (rest ++ at.1)),
-  at.3,
-  λ some. at.4 (omega (arith, some, ap length is, length-append text rest)),
-)
-
--- One line more.
-
-count-append : (xs ys : List ℕ)
-    → count_by newline (xs ++ ys) ≡ count_by newline xs + count_by newline ys
-count-append xs ys = sum_by-append (λ x. cond (newline x) 1 0) xs ys
-
-lines_of-some : (text : List ℕ) → lines_of text ≡ [] → ⊥
-lines_of-some text none =
-    let some = length-slice_split newline text in
-    let length_none : length (lines_of text) ≡ 0 = ap length none in
-    absurd (omega (arith, some, length_none))
-
-module _ (input : List ℕ) (number : ℕ) (line : List ℕ) (left : List (List ℕ)) (rest : List ℕ)
-    (is : IsLeft input number (line ∷ left) rest) where
-  first : IsNext line left rest (behind rest)
-  first = next-line rest line left is.1
-
-  -- what is behind the line's newline stands at the end of the input, behind so many newlines
-  abbrev Behind : Type 0
-  Behind = (before : List ℕ) × (input ≡ before ++ behind rest) × (number ≡ count_by newline before)
-
-  more-in : rest ≡ line ++ 10 ∷ behind rest → lines_of (behind rest) ≡ left → Behind
-  more-in text lines =
-      let before : List ℕ = is.0.0 ++ line ++ 10 ∷ [] in
-      let whole : input ≡ before ++ behind rest =
-      is.0.1 ∙ ap (λ t. is.0.0 ++ t) text ∙ sym (append_assoc is.0.0 line (10 ∷ behind rest))
-      ∙ sym (append_assoc (is.0.0 ++ line) (10 ∷ []) (behind rest)) in
-      let count : count_by newline (is.0.0 ++ rest) ≡ count_by newline (before ++ behind rest) =
-      ap (count_by newline) (sym is.0.1 ∙ whole) in
-      let all : length (lines_of rest) ≡ length (line ∷ left) = ap length is.1 in
-      let others : length (lines_of (behind rest)) ≡ length left = ap length lines in (
-        before,
-        whole,
-        omega (
-          arith,
-          is.0.2,
-          count,
-          count-append is.0.0 rest,
-          count-append before (behind rest),
-          length-slice_split newline rest,
-          length-slice_split newline (behind rest),
-          all,
-          others,
-        ),
-      )
-
-  -- what is behind the line does, and has a byte only where the line has a newline
-  behind-in : (before : List ℕ) × (input ≡ before ++ behind rest)
-      × (0 < length (behind rest) → number ≡ count_by newline before)
-  behind-in =
-      elim first as (λ _. (before : List ℕ) × (input ≡ before ++ behind rest)
-      × (0 < length (behind rest) → number ≡ count_by newline before)) [
-        | more text lines ↦ (
-          (more-in text lines).0,
-          (more-in text lines).1,
-          λ some. (more-in text lines).2,
-        )
-        | last text lines none ↦ (
-          input,
-          sym (ap (λ r. input ++ r) none ∙ append-nil input),
-          λ some. absurd (no-byte (behind rest) none some),
-        )
-      ]
-    where
-      no-byte : (xs : List ℕ) → xs ≡ [] → 0 < length xs → ⊥
-      no-byte [] none some = omega (arith, some)
-      no-byte (x ∷ xs) none some = absurd (cc)
-
-  behind-left : IsLeft input (number + 1) left (behind rest)
-  behind-left = by left first more-in
-    where
-      by : (left : List (List ℕ)) → IsNext line left rest (behind rest)
-          → (rest ≡ line ++ 10 ∷ behind rest → lines_of (behind rest) ≡ left → Behind)
-          → IsLeft input (number + 1) left (behind rest)
-      by [] next found = tt
-      by (l ∷ ls) (more text lines) found =
-          let at = found text lines in ((at.0, at.1, ap (λ n. n + 1) at.2), lines)
-      by (l ∷ ls) (last text lines none) found = absurd (cc)
-
-  -- the text of the section that was begun last has the line too
-  pub behind-text : (part text : List ℕ) → part ≡ text ++ rest
-      → IsSoFar left (behind rest) part (with_line line text)
-  behind-text part text so = by left first
-    where
-      by : (left : List (List ℕ)) → IsNext line left rest (behind rest)
-          → IsSoFar left (behind rest) part (with_line line text)
-      by [] (more text lines) = absurd (lines_of-some (behind rest) lines)
-      by [] (last all lines none) =
-          inr (ap (λ l. (text ++ l) ++ 10 ∷ []) (sym all) ∙ ap (λ p. p ++ 10 ∷ []) (sym so))
-      by (l ∷ ls) (more all lines) =
-          so ∙ ap (λ r. text ++ r) all ∙ sym (append_assoc text line (10 ∷ behind rest))
-          ∙ sym (append_assoc (text ++ line) (10 ∷ []) (behind rest))
-      by (l ∷ ls) (last text lines none) = absurd (cc)
-
-  -- a section that is begun has no line yet
-  pub behind-none : IsSoFar left (behind rest) (behind rest) []
-  behind-none = by left first
-    where
-      by : (left : List (List ℕ)) → IsNext line left rest (behind rest)
-          → IsSoFar left (behind rest) (behind rest) []
-      by [] (more text lines) = absurd (lines_of-some (behind rest) lines)
-      by [] (last all lines none) = inl (sym none)
-      by (l ∷ ls) next = refl
+part-more input bundle texts World part text are is =
+    record { world = is; ns = are.ns; cert = are.cert; script = are.script }
+part-more input bundle texts Ns part text are is =
+    record { world = are.world; ns = is; cert = are.cert; script = are.script }
+part-more input bundle texts Cert part text are is =
+    record { world = are.world; ns = are.ns; cert = is; script = are.script }
+part-more input bundle texts Script part text are is =
+    record { world = are.world; ns = are.ns; cert = are.cert; script = is }
 
 -- A line is read.
 
@@ -230,6 +206,16 @@ module _ (number : ℕ) (line : List ℕ) (bundle : Bundle) (rest after : Bor (L
   abbrev new : Option (Section × Part) → Reader
   new begun = record { bundle = bundle; begun = begun; rest = after; len = len }
 
+  -- the lines that are read have it, too
+  read-more : (input : List ℕ) (left : List (List ℕ))
+      → (read : List (List ℕ)) × (lines_of input ≡ read ++ line ∷ left) × (number ≡ length read + 1)
+      → (read : List (List ℕ)) × (lines_of input ≡ read ++ left) × (number + 1 ≡ length read + 1)
+  read-more input left read = (
+    read.0 ++ line ∷ [],
+    read.1 ∙ line-moves read.0 left line,
+    omega (arith, read.2, length-append read.0 (line ∷ [])),
+  )
+
   -- it begins no section
   pub reads-text : (begun : Option (Section × Part)) → starts_with nat_eq line (codes "%%") ≡ false
       → (last_of (old begun) ≡ None → list_all is_blank line ≡ true)
@@ -237,72 +223,119 @@ module _ (number : ℕ) (line : List ℕ) (bundle : Bundle) (rest after : Bor (L
   reads-text None plain blank input left texts read = (
     texts,
     rw (plain, blank refl) refl,
-    (read.0, rw is (behind-left input number line left rest.now read.1), read.2),
+    (
+      read-more input left read.0,
+      read.1,
+      behind-line line rest.now after.now left is read.2,
+      read.3,
+    ),
   )
   reads-text (Some (section, part)) plain blank input left texts read =
-      let so = read.2 in (
+      let so = read.3 in
+      let own : List (List ℕ) = so.1 ++ line ∷ [] in
+      let moves : so.1 ++ line ∷ left ≡ own ++ left = line-moves so.1 left line in
+      let at = so.3 in (
         with_line_in section line texts,
         rw plain refl,
         (
-          read.0,
-          rw is (behind-left input number line left rest.now read.1),
+          read-more input left read.0,
+          read.1,
+          behind-line line rest.now after.now left is read.2,
           (
             so.0,
-            with_line line so.1,
+            own,
             so.2,
-            ap (with_line_in section line) so.3 ∙ more-text section line so.1 so.0,
-            so.4,
-            rw is (behind-text input number line left rest.now read.1 part.text.now so.1 so.5),
+            record {
+              before = at.before;
+              lines = at.lines ∙ ap (λ ls. at.before ++ head_of section ∷ ls) moves;
+              start = at.start
+                  ∙ ap (λ ls. length (in_input (at.before ++ head_of section ∷ []) ls)) moves;
+              line = at.line;
+            },
+            so.4 ∙ ap joined moves,
+            ap (with_line_in section line) so.5 ∙ more-text section line (flat_map ended so.1) so.0
+                ∙ ap (λ t. with_text section t so.0) (ended-more so.1 line),
           ),
         ),
       )
 
   -- the sections before the one that the line begins are parts
-  ended : (begun : Option (Section × Part)) (input : List ℕ) (left : List (List ℕ)) (texts : Texts)
-      (next : Bundle) → AreSoFar input (line ∷ left) rest.now bundle begun texts
+  parts-ended : (begun : Option (Section × Part)) (input : List ℕ) (left : List (List ℕ)) (texts : Texts)
+      (next : Bundle) → IsRest (line ∷ left) rest.now
+      → AreSoFar input (line ∷ left) bundle begun texts
       → Ends rest.now begun bundle next → ArePartsOf input next texts
-  ended None input left texts next so ends = rw ends so
-  ended (Some (section, part)) input left texts next so ends =
-      let same : ends.0.text.now ≡ so.1 = ends.4 so.1 so.5 in
-      let at : IsIn input ends.0 =
-      rw (same, ends.2, ends.3)
-      (shorter-in input part.text.now rest.now so.1 part.start part.line so.5 so.4) in
-      rw (ends.1, so.3)
-      (part-more input bundle so.0 section ends.0 so.1 so.2 at (inl (sym same)))
+  parts-ended None input left texts next rest_is so ends = rw ends so
+  parts-ended (Some (section, part)) input left texts next rest_is so ends =
+      let at = so.3 in
+      let bytes : part.text.now ≡ flat_map ended so.1 ++ rest.now =
+      so.4 ∙ joined-append so.1 (line ∷ left)
+      ∙ ap (λ r. flat_map ended so.1 ++ r) (sym (rest-joined (line ∷ left) rest.now rest_is)) in
+      let is_part : IsPart input section ends.0 (flat_map ended so.1) =
+      record {
+        own = so.1;
+        behind = line ∷ left;
+        at = record {
+          before = at.before;
+          lines = at.lines;
+          start = ends.2 ∙ at.start;
+          line = ends.3 ∙ at.line;
+        };
+        bytes = ends.4 (flat_map ended so.1) bytes;
+        lines = refl;
+      } in
+      rw (ends.1, so.5) (part-more input bundle so.0 section ends.0 (flat_map ended so.1) so.2 is_part)
+
+  -- a section that is begun has no line yet
+  stands : (input : List ℕ) (left : List (List ℕ)) (section : Section) → line ≡ head_of section
+      → (read : List (List ℕ)) × (lines_of input ≡ read ++ line ∷ left) × (number ≡ length read + 1)
+      → len ≡ length input → after.now ≡ joined left
+      → IsAt input section [] left
+      (record { text = after; start = len - length after.now; line = number + 1 })
+  stands input left section head read all behind =
+      let before : List (List ℕ) = read.0 ++ head_of section ∷ [] in
+      let lines : lines_of input ≡ read.0 ++ head_of section ∷ left =
+      read.1 ∙ ap (λ l. read.0 ++ l ∷ left) head in
+      let whole : input ≡ in_input before left ++ joined left =
+      sym (join_with_byte-slice_split 10 input)
+      ∙ ap joined (lines ∙ line-moves read.0 left (head_of section))
+      ∙ joined-append before left in
+      record {
+        before = read.0;
+        lines = lines;
+        start = omega (
+          arith,
+          all,
+          ap length whole,
+          ap length behind,
+          length-append (in_input before left) (joined left),
+        );
+        line = omega (arith, read.2);
+      }
 
   -- it begins a section
   pub reads-begin : (was : Option (Section × Part)) (section : Option Section) (next : Reader)
       → starts_with nat_eq line (codes "%%") ≡ true → section_of line ≡ section
       → Begins number section rest.now (new was) next → Reads number line (old was) next
   reads-begin was None after_it marked of begins input left texts read = absurd begins
-  reads-begin was (Some section) after_it marked of begins input left texts read = (
-    with_section section texts,
-    rw (marked, of, begins.0, begins.4) refl,
-    (
-      begins.3 ∙ read.0,
-      rw (begins.2, is) (behind-left input number line left rest.now read.1),
-      rw (begins.2, begins.4) (
-        texts,
-        [],
-        ended was input left texts after_it.bundle read.2 begins.1,
-        begun-text section texts,
-        stands,
-        rw is (behind-none input number line left rest.now read.1),
-      ),
-    ),
-  )
-    where
-      stands : IsIn input
-          (record { text = after; start = len - length after.now; line = number + 1 })
-      stands =
-          let end = behind-in input number line left rest.now read.1 in
-          let whole : input ≡ end.0 ++ after.now = rw is end.1 in (
-            end.0,
+  reads-begin was (Some section) after_it marked of begins input left texts read =
+      let left_is = behind-line line rest.now after.now left is read.2 in
+      let behind = rest-joined left after.now left_is in (
+        with_section section texts,
+        rw (marked, of, begins.0, begins.4) refl,
+        (
+          read-more input left read.0,
+          begins.3 ∙ read.1,
+          rw begins.2 left_is,
+          rw begins.4 (
+            texts,
             [],
-            whole ∙ sym (append-nil (end.0 ++ after.now)),
-            omega (arith, read.0, ap length whole, length-append end.0 after.now),
-            λ some. ap (λ n. n + 1) (end.2 (subst (λ a. 0 < length a) is some)),
-          )
+            parts-ended was input left texts after_it.bundle read.2 read.3 begins.1,
+            stands input left section (begins-head line section of) read.0 read.1 behind,
+            behind,
+            begun-text section texts,
+          ),
+        ),
+      )
 
   -- it is bad
   pub bad-begin : (was : Option (Section × Part)) (section : Option Section) (error : BundleError)
@@ -321,10 +354,17 @@ module _ (number : ℕ) (line : List ℕ) (bundle : Bundle) (rest after : Bor (L
 
 -- Where no line is left, the section that was begun last is a part too.
 pub all-parts : (input : List ℕ) (texts : Texts) (bundle : Bundle) (section : Section) (part : Part)
-    (rest : List ℕ) → AreSoFar input [] rest bundle (Some (section, part)) texts
+    → AreSoFar input [] bundle (Some (section, part)) texts
     → ArePartsOf input (with_part section part bundle) texts
-all-parts input texts bundle section part rest so =
-    rw so.3 (part-more input bundle so.0 section part so.1 so.2 so.4 so.5)
+all-parts input texts bundle section part so =
+    rw so.5 (part-more input bundle so.0 section part (flat_map ended so.1) so.2
+    (record {
+      own = so.1;
+      behind = [];
+      at = so.3;
+      bytes = so.4 ∙ ap joined (append-nil so.1);
+      lines = refl;
+    }))
 
 -- what follows from a result
 

@@ -1,9 +1,9 @@
 -- Sections that say the same.
 use Rattle.std.proofs.Common.{◌≡◌, ◌==◌, ℕ, ◌+◌, ◌<◌, Bool, true, false, cond, List, [], ◌∷◌, ◌++◌}
-use Rattle.std.proofs.Common.{Option, Some, None, Result, Ok, Err, inl, inr, length, map, refl, sym}
+use Rattle.std.proofs.Common.{Option, Some, None, Result, Ok, Err, length, map, refl, sym}
 use Rattle.std.proofs.Common.{ap, ◌∙◌, arith}
 use Rattle.std.specs.Prelude.{not, filter, unwrap_or}
-use Rattle.std.specs.List.{enumerate_from, onto_first}
+use Rattle.std.specs.List.{enumerate_from, flat_map, join_with_byte, onto_first}
 use Rattle.std.specs.Option.{option_map}
 use Rattle.std.proofs.lemmas.List.{append-nil}
 use Rattle.std.proofs.lemmas.List.Splits.{length-slice_split}
@@ -14,7 +14,8 @@ use Rattle.p9_cert.specs.Text.{certificate_of}
 use Rattle.p9_nsline.specs.Line.{lines_in}
 use Rattle.p9_world.specs.Read.{world_of}
 use Rattle.p9_world.specs.World.{World}
-use Rattle.p9_prepared.specs.Bundle.{ArePartsOf, IsPartOf, Texts, bundle_view, part_view, with_line}
+use Rattle.p9_prepared.specs.Bundle.{ArePartsOf, IsPartOf, Texts, bundle_view, ended, in_input}
+use Rattle.p9_prepared.specs.Bundle.{part_view, with_line}
 use Rattle.p9_prepared.specs.NameSpace.{NameSpace, space_in, space_over, world_in}
 use Rattle.p9_prepared.specs.Prepared.{certificate_in, prepared_with, rest_in, script_in, space_with}
 use Rattle.p9_prepared.specs.Statements.{SameStatements, statements_in}
@@ -22,6 +23,9 @@ use Rattle.p9_prepared.specs.declared.bundle.Bundle.{Bundle}
 use Rattle.p9_prepared.specs.declared.bundle.Part.{Part}
 use Rattle.p9_prepared.specs.declared.prepared.Needs.{Needs}
 use Rattle.p9_prepared.specs.declared.refusal.Refusal.{Refusal}
+use Rattle.p9_prepared.specs.declared.section.Section.{Section}
+use Rattle.p9_prepared.specs.declared.section.Section.TheVariants.{World as WorldSection, Ns, Cert, Script}
+use Rattle.p9_prepared.proofs.Parts.{joined-ended}
 
 -- Texts, cut at a newline.
 
@@ -76,25 +80,29 @@ same-itself texts = record { world = refl; ns = refl; cert = refl; script = refl
 
 -- The parts of an input say what its sections' texts say.
 
-part-says : (input : List ℕ) (part : Option Part) (text : Option (List ℕ))
-    → IsPartOf input part text → statements_in (part_view part) ≡ statements_in text
-part-says input None None is = refl
-part-says input None (Some text) is = absurd is
-part-says input (Some part) None is = absurd is
-part-says input (Some part) (Some text) is =
-    elim is.1 as (λ _. statements_in (part_view (Some part)) ≡ statements_in (Some text)) [
-      | inl whole ↦ ap (λ t. Some (statements_of t)) (sym whole)
-      | inr more ↦ ap Some (statements_of-newline part.text.now)
-          ∙ ap (λ t. Some (statements_of t)) (sym more)
-    ]
+in_input-says : (own behind : List (List ℕ))
+    → statements_of (in_input own behind) ≡ statements_of (flat_map ended own)
+in_input-says own (line ∷ behind) = refl
+in_input-says [] [] = refl
+in_input-says (line ∷ own) [] =
+    statements_of-newline (join_with_byte 10 (line ∷ own)) ∙ ap statements_of (joined-ended line own)
+
+part-says : (input : List ℕ) (section : Section) (part : Option Part) (text : Option (List ℕ))
+    → IsPartOf input section part text → statements_in (part_view part) ≡ statements_in text
+part-says input section None None is = refl
+part-says input section None (Some text) is = absurd is
+part-says input section (Some part) None is = absurd is
+part-says input section (Some part) (Some text) is =
+    ap (λ t. Some (statements_of t)) is.bytes ∙ ap Some (in_input-says is.own is.behind)
+    ∙ ap (λ t. Some (statements_of t)) (sym is.lines)
 
 pub parts-say : (input : List ℕ) (bundle : Bundle) (texts : Texts) → ArePartsOf input bundle texts
     → SameStatements (bundle_view bundle) texts
 parts-say input bundle texts are = record {
-  world = part-says input bundle.world texts.world are.world;
-  ns = part-says input bundle.ns texts.ns are.ns;
-  cert = part-says input bundle.cert texts.cert are.cert;
-  script = part-says input bundle.script texts.script are.script;
+  world = part-says input WorldSection bundle.world texts.world are.world;
+  ns = part-says input Ns bundle.ns texts.ns are.ns;
+  cert = part-says input Cert bundle.cert texts.cert are.cert;
+  script = part-says input Script bundle.script texts.script are.script;
 }
 
 -- What says the same comes to the same.

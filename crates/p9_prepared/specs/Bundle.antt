@@ -1,12 +1,12 @@
 -- Bundles: the program's input, in sections.
-use Rattle.std.specs.Prelude.{◌≡◌, ◌==◌, ◌<◌, ℕ, ◌+◌, ◌-◌, ◌⊎◌, nat_eq, List, [], ◌∷◌, ◌++◌}
+use Rattle.std.specs.Prelude.{◌≡◌, ℕ, ◌+◌, ◌-◌, nat_eq, List, [], ◌∷◌, ◌++◌}
 use Rattle.std.specs.Prelude.{Option, Some, length, true}
 use Rattle.std.specs.Prelude.{None, Result, Ok, Err, codes, if◌then◌else◌}
-use Rattle.std.specs.List.{count_by, enumerate_from, list_all, starts_with}
+use Rattle.std.specs.List.{enumerate_from, flat_map, join_with_byte, list_all, starts_with}
 use Rattle.std.specs.Option.{option_map}
 use Rattle.p9_base.specs.Line.{is_blank, lines_of}
 use Rattle.p9_base.specs.Results.{and_then, try_fold}
-use Rattle.p9_prepared.specs.Section.{may_follow, section_of}
+use Rattle.p9_prepared.specs.Section.{head_of, may_follow, section_of}
 use Rattle.p9_prepared.specs.declared.section.Section.{Section}
 use Rattle.p9_prepared.specs.declared.section.Section.TheVariants.{World, Ns, Cert, Script}
 use Rattle.p9_prepared.specs.declared.bundle.Bundle.{Bundle}
@@ -33,6 +33,10 @@ with_section World texts = record texts { world = Some [] }
 with_section Ns texts = record texts { ns = Some [] }
 with_section Cert texts = record texts { cert = Some [] }
 with_section Script texts = record texts { script = Some [] }
+
+-- a line with its newline
+abbrev pub ended : List ℕ → List ℕ
+ended line = line ++ 10 ∷ []
 
 -- one line more
 abbrev pub with_line : (line text : List ℕ) → List ℕ
@@ -95,31 +99,42 @@ bundle_view bundle = record {
   script = part_view bundle.script;
 }
 
--- a part stands in the input, so many bytes are before it as its place says, and, if it has any, so
--- many newlines as there are lines before its first one
-abbrev pub IsIn : List ℕ → Part → Type 0
-IsIn input part =
-    (before : List ℕ) × (after : List ℕ) × (input ≡ before ++ part.text.now ++ after)
-    × (part.start ≡ length before)
-    × (0 < length part.text.now → part.line ≡ count_by (λ b. b == 10) before + 1)
+-- lines of an input as they are in it before others: each has a newline, but the input's last line
+-- has none
+abbrev pub in_input : (lines behind : List (List ℕ)) → List ℕ
+in_input lines [] = join_with_byte 10 lines
+in_input lines (line ∷ behind) = flat_map ended lines
 
--- the text of the lines of a part: the part, or, since each line of a text has a newline, the part
--- and the newline that the input's last line lacks
-abbrev pub IsTextOf : (part text : List ℕ) → Type 0
-IsTextOf part text = (text ≡ part) ⊎ (text ≡ part ++ 10 ∷ [])
+-- a section's lines are these, behind the one that begins it and before others, and its part is
+-- where they begin: so many bytes are before it as its place says, and the number is that of the
+-- line behind the one that begins the section
+pub record IsAt (input : List ℕ) (section : Section) (own behind : List (List ℕ)) (part : Part) : Type 0 where
+  pub before : List (List ℕ)
+  pub lines : lines_of input ≡ before ++ head_of section ∷ (own ++ behind)
+  pub start : part.start ≡ length (in_input (before ++ head_of section ∷ []) (own ++ behind))
+  pub line : part.line ≡ length before + 2
+
+-- a section's part has its lines as they are in the input, and its text has each of them with a
+-- newline
+pub record IsPart (input : List ℕ) (section : Section) (part : Part) (text : List ℕ) : Type 0 where
+  pub own : List (List ℕ)
+  pub behind : List (List ℕ)
+  pub at : IsAt input section own behind part
+  pub bytes : part.text.now ≡ in_input own behind
+  pub lines : text ≡ flat_map ended own
 
 -- a section is there, as a part of the input and as the text of its lines; or it isn't there
-abbrev pub IsPartOf : List ℕ → Option Part → Option (List ℕ) → Type 0
-IsPartOf input None None = Unit {0}
-IsPartOf input (Some part) (Some text) = IsIn input part × IsTextOf part.text.now text
-IsPartOf input part text = ⊥
+abbrev pub IsPartOf : List ℕ → Section → Option Part → Option (List ℕ) → Type 0
+IsPartOf input section None None = Unit {0}
+IsPartOf input section (Some part) (Some text) = IsPart input section part text
+IsPartOf input section part text = ⊥
 
 -- the sections of a bundle are parts of the input, which have these texts
 pub record ArePartsOf (input : List ℕ) (bundle : Bundle) (texts : Texts) : Type 0 where
-  pub world : IsPartOf input bundle.world texts.world
-  pub ns : IsPartOf input bundle.ns texts.ns
-  pub cert : IsPartOf input bundle.cert texts.cert
-  pub script : IsPartOf input bundle.script texts.script
+  pub world : IsPartOf input World bundle.world texts.world
+  pub ns : IsPartOf input Ns bundle.ns texts.ns
+  pub cert : IsPartOf input Cert bundle.cert texts.cert
+  pub script : IsPartOf input Script bundle.script texts.script
 
 -- an error says that an allocation failed, or which line is the first bad one
 abbrev pub IsBundleFault : {X : Type 0} → Result X ℕ → BundleError → Type 0
@@ -150,34 +165,27 @@ last_of reader = option_map (λ begun. begun.0) reader.begun
 abbrev pub reading_of : Reader → Texts → Reading
 reading_of reader texts = record { texts = texts; last = last_of reader }
 
--- the part of the section that was begun last has what is left behind its text so far; where no line
--- is left, it has its text
-abbrev pub IsSoFar : (left : List (List ℕ)) → (rest part text : List ℕ) → Type 0
-IsSoFar [] rest part text = IsTextOf part text
-IsSoFar (line ∷ left) rest part text = part ≡ text ++ rest
+-- the sections before are parts, and the one that was begun last is one, which has all that is left,
+-- too
+abbrev pub AreSoFar : List ℕ → (left : List (List ℕ)) → Bundle → Option (Section × Part) → Texts
+    → Type 0
+AreSoFar input left bundle None texts = ArePartsOf input bundle texts
+AreSoFar input left bundle (Some begun) texts =
+    (before : Texts) × (own : List (List ℕ)) × ArePartsOf input bundle before
+    × IsAt input begun.0 own left begun.1 × (begun.1.text.now ≡ join_with_byte 10 (own ++ left))
+    × (texts ≡ with_text begun.0 (flat_map ended own) before)
 
--- the sections before are parts, and so is the one that was begun last
-abbrev pub AreSoFar : List ℕ → (left : List (List ℕ)) → List ℕ → Bundle → Option (Section × Part)
-    → Texts → Type 0
-AreSoFar input left rest bundle None texts = ArePartsOf input bundle texts
-AreSoFar input left rest bundle (Some begun) texts =
-    (before : Texts) × (text : List ℕ) × ArePartsOf input bundle before
-    × (texts ≡ with_text begun.0 text before) × IsIn input begun.1
-    × IsSoFar left rest begun.1.text.now text
-
--- these lines are left of the input, the first of which has this number, and the rest is what they
--- are in it
-abbrev pub IsLeft : List ℕ → (number : ℕ) → List (List ℕ) → List ℕ → Type 0
-IsLeft input number [] rest = Unit {0}
-IsLeft input number (line ∷ left) rest =
-    ((before : List ℕ) × (input ≡ before ++ rest)
-    × (number ≡ count_by (λ b. b == 10) before + 1)) × (lines_of rest ≡ line ∷ left)
+-- a text has these lines; where there are none, it is empty
+abbrev pub IsRest : List (List ℕ) → List ℕ → Type 0
+IsRest [] rest = rest ≡ []
+IsRest (line ∷ left) rest = lines_of rest ≡ line ∷ left
 
 -- an input is read up to these lines, from this number on, with these texts of its sections so far
 abbrev pub IsReadTo : List ℕ → (number : ℕ) → List (List ℕ) → Reader → Texts → Type 0
 IsReadTo input number left reader texts =
-    (reader.len ≡ length input) × IsLeft input number left reader.rest.now
-    × AreSoFar input left reader.rest.now reader.bundle reader.begun texts
+    ((read : List (List ℕ)) × (lines_of input ≡ read ++ left) × (number ≡ length read + 1))
+    × (reader.len ≡ length input) × IsRest left reader.rest.now
+    × AreSoFar input left reader.bundle reader.begun texts
 
 -- a line is read as it is read into the texts
 abbrev pub Reads : (number : ℕ) → List ℕ → (old new : Reader) → Type 0

@@ -4,5 +4,5 @@ use Rattle.p9_prepared.proofs.bundle.Reader.bundle.Goals as goal
 pub returns-in-Some : goal.returns-in-Some
 returns-in-Some c input number texts read =
     rw c.with_part.ensures
-    (all-parts input texts c.args.self.bundle c.in-Some.section c.in-Some.part c.args.self.rest.now
-    (rw c.in-Some.is at read.2))
+    (all-parts input texts c.args.self.bundle c.in-Some.section c.in-Some.part
+    (rw c.in-Some.is at read.3))
