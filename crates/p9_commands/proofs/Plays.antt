@@ -15,11 +15,6 @@ pub record PlaysSoFar (all : List Event) (start : State) (before : List ℕ) (re
   pub goes_on : (back : List Bool)
       → out ++ play_text here rest back ≡ before ++ play_text start all (front ++ back)
 
--- before the first event
-pub plays-none : (all : List Event) (start : State) (before : List ℕ)
-    → PlaysSoFar all start before all start before
-plays-none all start before = record { front = []; goes_on = λ back. refl }
-
 module _ (all : List Event) (start : State) (before : List ℕ) (here : State) (out : List ℕ) where
   -- one event more
   plays-event : (event : Event) (rest : List Event) (next : State) (after : List ℕ)

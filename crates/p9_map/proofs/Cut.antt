@@ -22,12 +22,6 @@ front-more rest next out after whole left c utf8 is grown some so_far =
     ∙ ap (λ cs. out ++ encode_utf8_all (take left cs)) (sym (chars_past_char rest next c utf8 is))
     ∙ so_far
 
--- none is to be taken
-pub front-whole : (rest out whole : List ℕ) (left : ℕ) → left ≡ 0
-    → out ++ encode_utf8_all (take left (chars rest)) ≡ whole → out ≡ whole
-front-whole rest out whole left none so_far =
-    sym (ap (λ k. out ++ encode_utf8_all (take k (chars rest))) none ∙ append-nil out) ∙ so_far
-
 take-none : (n : ℕ) → take {A = ℕ} n [] ≡ []
 take-none zero = refl
 take-none (suc n) = refl

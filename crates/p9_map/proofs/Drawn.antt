@@ -1,7 +1,7 @@
 -- Boxes that are drawn one after another.
-use Rattle.std.proofs.Common.{◌≡◌, ℕ, ◌+◌, ◌<◌, ◌≤◌, List, [], ◌∷◌, ◌++◌, Option, length, map, drop, get_or, sym, ap, ◌∙◌}
-use Rattle.std.proofs.Common.{append_assoc, append-nil, refl}
-use Rattle.std.proofs.lemmas.List.{drop_all, drop_more}
+use Rattle.std.proofs.Common.{◌≡◌, ℕ, ◌+◌, ◌<◌, List, [], ◌∷◌, ◌++◌, Option, length, map, drop, get_or, sym, ap, ◌∙◌}
+use Rattle.std.proofs.Common.{append_assoc, refl}
+use Rattle.std.proofs.lemmas.List.{drop_more}
 use Rattle.p9_base.specs.declared.node_ref.NodeRef.{NodeRef}
 use Rattle.p9_world.specs.World.{World}
 use Rattle.p9_map.specs.Box.{box_text}
@@ -67,10 +67,3 @@ module _ {B : Type 0} (world : World) (rows : List NodeRef) (walk : Option Walk)
       ∙ ap (λ xs. text ++ boxes_text world rows walk xs (map label_texts (label ∷ ls))) (sym here)
       ∙ ap (λ ys. text ++ boxes_text world rows walk (drop i boxes) (map label_texts ys)) (sym there)
       ∙ so_far
-
-  pub drawn-all : length boxes ≤ i
-      → text ++ boxes_text world rows walk (drop i boxes) (map label_texts (drop i labels)) ≡ whole
-      → text ≡ whole
-  drawn-all l so_far =
-      sym (ap (λ bs. text ++ boxes_text world rows walk bs (map label_texts (drop i labels)))
-      (drop_all i boxes l) ∙ append-nil text) ∙ so_far

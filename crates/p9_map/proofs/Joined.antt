@@ -1,6 +1,6 @@
 -- Lines that are made one after another.
 use Rattle.std.proofs.Common.{◌≡◌, ℕ, ◌+◌, ◌<◌, List, [], ◌∷◌, ◌++◌, length, map, take, get_or, sym}
-use Rattle.std.proofs.Common.{ap, ◌∙◌, subst, refl}
+use Rattle.std.proofs.Common.{ap, ◌∙◌, subst}
 use Rattle.std.specs.List.{All}
 use Rattle.std.proofs.lemmas.List.{map_push, take_more}
 use Rattle.std.proofs.lemmas.List.Elements.{All-append, All-cons, All-nil}
@@ -13,9 +13,6 @@ use Rattle.p9_map.specs.declared.line.Line.{Line}
 pub record AreJoined (boxes : List Placed) (links : List Link) (lines : List Line) : Type 0 where
   pub same : map (λ l. l.link) lines ≡ links
   pub joined : All (IsJoined boxes) lines
-
-pub joined-none : (boxes : List Placed) → AreJoined boxes [] []
-joined-none boxes = record { same = refl; joined = All-nil (IsJoined boxes) }
 
 module _ (boxes : List Placed) (links : List Link) (i : ℕ) (lines after : List Line) where
   pub joined-more : (link d : Link) (line : Line) → i < length links → link ≡ get_or links i d

@@ -1,6 +1,6 @@
 -- Boxes that are placed one after another.
 use Rattle.std.proofs.Common.{◌≡◌, ℕ, ◌+◌, ◌<◌, List, [], ◌∷◌, ◌++◌, length, map, take, get_or, sym}
-use Rattle.std.proofs.Common.{ap, ◌∙◌, subst, refl, arith}
+use Rattle.std.proofs.Common.{ap, ◌∙◌, subst}
 use Rattle.std.specs.List.{All, AllPairs}
 use Rattle.std.proofs.lemmas.List.{map_push, take_more}
 use Rattle.std.proofs.lemmas.List.Elements.{All-append, All-cons, All-nil}
@@ -17,13 +17,6 @@ pub record AreLaid (items : List Item) (boxes : List Placed) (pen : Pen) : Type 
   pub nodes : map (λ p. p.node) boxes ≡ map (λ i. i.node) items
   pub apart : AllPairs (λ p q. AreApart p.rect q.rect) boxes
   pub before : All (λ p. IsBefore p.rect pen) boxes
-
-pub laid-none : (pen : Pen) → AreLaid [] [] pen
-laid-none pen = record {
-  nodes = refl;
-  apart = λ i j d before within. absurd (omega arith);
-  before = All-nil (λ p. IsBefore p.rect pen);
-}
 
 module _ (items : List Item) (i : ℕ) (boxes after : List Placed) (pen next : Pen) where
   pub laid-more : (item d : Item) (placed : Placed) → i < length items → item ≡ get_or items i d

@@ -5,7 +5,6 @@ pub mod Follows
 pub mod Between
 pub mod Ranks
 pub mod Sets
-pub mod Hops
 pub mod Cut
 pub mod Labelled
 pub mod Drawn

@@ -2,12 +2,11 @@
 use Rattle.std.proofs.Common.{◌≡◌, ℕ, ◌+◌, ◌-◌, ◌<◌, ◌≤◌, ◌&&◌, ◌||◌, Bool, true, false, List, [], ◌∷◌}
 use Rattle.std.proofs.Common.{◌++◌, Some, None, length, map, drop, reverse, get_or, Option, nat_lt}
 use Rattle.std.proofs.Common.{if◌then◌else◌, refl, sym, ap, ◌∙◌, subst, arith, MatchBool, inl, inr}
-use Rattle.std.proofs.Common.{append_assoc, cond, count_by}
+use Rattle.std.proofs.Common.{cond, count_by}
 use Rattle.std.specs.Prelude.{IsTrue}
 use Rattle.std.specs.List.{All, list_any}
-use Rattle.std.proofs.lemmas.Bool.{cases_Bool, false≢true, le-leb, lt-leb, or_left, or_right}
+use Rattle.std.proofs.lemmas.Bool.{cases_Bool, false≢true, lt-leb, or_left, or_right}
 use Rattle.std.proofs.lemmas.List.Elements.{All-cons, All-nil}
-use Rattle.std.proofs.lemmas.List.Folds.{list_any_at}
 use Rattle.p9_cert.proofs.Basics.{same_self}
 use Rattle.p9_map.specs.Line.{is_at}
 use Rattle.std.proofs.lemmas.List.{drop_all, drop_more, reverse-append}
@@ -103,31 +102,6 @@ module _ (f : List Spot → ℕ) (g : Spot → ℕ) (step : (s : Spot) (ss : Lis
 module _ (depth : ℕ) (all : List Ranked) (i left : ℕ) (r d : Ranked) (so_far whole : List Spot) where
   here : i < length all → r ≡ get_or all i d → drop i all ≡ r ∷ drop (i + 1) all
   here l at = drop_more all i d l ∙ ap (λ x. x ∷ drop (i + 1) all) (sym at)
-
-  pub kept-step : i < length all → r ≡ get_or all i d → r.kept ≡ true
-      → so_far ++ chosen_at depth left (drop i all) ≡ whole
-      → (so_far ++ r.spot ∷ []) ++ chosen_at depth left (drop (i + 1) all) ≡ whole
-  kept-step l at kept is =
-      append_assoc so_far (r.spot ∷ []) (chosen_at depth left (drop (i + 1) all))
-      ∙ ap (λ ss. so_far ++ ss) (sym (chosen-kept depth left r (drop (i + 1) all) kept))
-      ∙ ap (λ rs. so_far ++ chosen_at depth left rs) (sym (here l at)) ∙ is
-
-  pub more-step : i < length all → r ≡ get_or all i d → r.kept ≡ false
-      → (nat_lt 0 left && is_within depth r) ≡ true
-      → so_far ++ chosen_at depth left (drop i all) ≡ whole
-      → (so_far ++ r.spot ∷ []) ++ chosen_at depth (left - 1) (drop (i + 1) all) ≡ whole
-  more-step l at other more is =
-      append_assoc so_far (r.spot ∷ []) (chosen_at depth (left - 1) (drop (i + 1) all))
-      ∙ ap (λ ss. so_far ++ ss) (sym (chosen-more depth left r (drop (i + 1) all) other more))
-      ∙ ap (λ rs. so_far ++ chosen_at depth left rs) (sym (here l at)) ∙ is
-
-  pub not-step : i < length all → r ≡ get_or all i d → r.kept ≡ false
-      → (nat_lt 0 left && is_within depth r) ≡ false
-      → so_far ++ chosen_at depth left (drop i all) ≡ whole
-      → so_far ++ chosen_at depth left (drop (i + 1) all) ≡ whole
-  not-step l at other not is =
-      ap (λ ss. so_far ++ ss) (sym (chosen-not depth left r (drop (i + 1) all) other not))
-      ∙ ap (λ rs. so_far ++ chosen_at depth left rs) (sym (here l at)) ∙ is
 
 module _ (forest : List Server) (hidden marked : List NodeRef) where
   -- the nodes from the i-th on are ranked, and this deep are the noted and the kept one that come next
@@ -247,32 +221,11 @@ module _ (forest : List Server) (hidden marked : List NodeRef) where
             ]
       ]
 
-  kept-all : (all : List Spot) → All (HasBox all) all
-  unfolding HasBox
-  kept-all all k d l row =
-      let t = get_or all k d in
-      list_any_at (is_at t.node) all k d l (same_self t.node)
-
   kept-first : (all spots : List Spot) → AreFirst forest hidden marked all spots
       → All (HasBox spots) all
   kept-first all spots first =
       subst (λ spots. All (HasBox spots) all) (sym first.chosen)
       (kept-in first.depth (boxes_max - kept_count (ranked forest hidden marked all)) all)
-
-  -- all nodes have boxes
-  pub whole-plan : (all : List Spot) → AreAll forest all → length all ≤ boxes_max
-      → IsPlan forest hidden marked all 0 0
-  unfolding HasBox
-  whole-plan all ordered few = record {
-    all = all;
-    ordered = ordered;
-    chosen =
-        subst (λ b. MatchBool b (all ≡ all) (AreFirst forest hidden marked all all))
-        (sym (le-leb (length all) boxes_max few)) refl;
-    others = omega arith;
-    marked_others = omega arith;
-    kept = kept-all all;
-  }
 
   -- the first have boxes
   pub first-plan : (all spots : List Spot) (left_out marked_left_out : ℕ) → AreAll forest all

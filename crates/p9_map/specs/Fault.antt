@@ -1,5 +1,5 @@
 -- What is wrong with the member that a breach leads to.
-use Rattle.std.specs.Prelude.{ℕ, Bool, true, false, List, ◌++◌, Option, codes, find}
+use Rattle.std.specs.Prelude.{ℕ, Bool, false, List, ◌++◌, Option, codes, find}
 use Rattle.std.specs.Option.{option_map_or}
 use Rattle.p9_base.specs.declared.node_ref.NodeRef.{NodeRef}
 use Rattle.p9_base.specs.NodeRef.{beside}

@@ -25,13 +25,6 @@ script-line texts line other =
     step-from (behind script_head texts) 0 line (behind script_head (with_script_line line texts))
     (rw other refl)
 
--- and to the certificate
-cert-line : (texts : Texts) (line : List ℕ) → starts_with nat_eq line (codes "%%") ≡ false
-    → Step (behind cert_head texts) line (behind cert_head (with_cert_line line texts))
-cert-line texts line other =
-    step-from (behind cert_head texts) 0 line (behind cert_head (with_cert_line line texts))
-    (rw other refl)
-
 -- the lines of a script read the same after another certificate
 script-reads : (cert : Option (List ℕ)) (lines : List (List ℕ)) (texts : Texts) (last : Reading)
     → Reads (behind script_head texts) lines last

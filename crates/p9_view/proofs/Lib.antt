@@ -5,6 +5,5 @@ pub mod Orders
 pub mod Tours
 pub mod Walks
 mod Names
-mod Refusals
 mod Ranked
 mod Passers

@@ -55,9 +55,6 @@ nodes-cases xs ys = go (is_at (slice_cmp node_cmp xs) ys) refl
         ∙ ap (λ o. is_at (λ (x : Ordering). x) o) (nodes-self xs)) e)
 
 module _ {K : Type 0} (items : K → List NodeRef) where
-  by_items : K → K → Ordering
-  by_items x y = slice_cmp node_cmp (items x) (items y)
-
   -- other nodes are found as before
   pub others-kept : {X : Type 0} (nodes others : List NodeRef) (old new : List (K × X))
       → KeepsOthers (eq_by_cmp (λ x y. slice_cmp node_cmp (items x) (items y)))

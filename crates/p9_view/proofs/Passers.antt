@@ -1,14 +1,13 @@
 -- Who passes a directory, class by class.
 use Rattle.std.proofs.Common.{◌≡◌, ℕ, ◌<◌, Bool, true, false, cond, ◌&&◌, ◌||◌, List, [], ◌∷◌, Option}
-use Rattle.std.proofs.Common.{Some, None, refl, sym, ap, ◌∙◌, arith, inl, inr, ◌⊎◌, get_or}
-use Rattle.std.proofs.Common.{◌++◌, append-nil, length}
+use Rattle.std.proofs.Common.{Some, None, refl, sym, ap, ◌∙◌, get_or}
+use Rattle.std.proofs.Common.{length}
 use Rattle.std.specs.Prelude.{filter}
-use Rattle.std.specs.List.{cons_option, list_any}
+use Rattle.std.specs.List.{list_any}
 use Rattle.std.specs.Option.{option_map_or}
 use Rattle.std.specs.Str.{bytes_eq}
 use Rattle.std.proofs.lemmas.List.Folds.{list_any_at}
-use Rattle.std.proofs.lemmas.Slice.Eq.{bytes_eq-Decides}
-use Rattle.p9_base.specs.Group.{Group, GroupRow, group_of, has_member, is_member, leads}
+use Rattle.p9_base.specs.Group.{GroupRow, is_member, leads}
 use Rattle.p9_tree.specs.Forest.{node_of}
 use Rattle.p9_tree.specs.Node.{Node, is_dir}
 use Rattle.p9_tree.specs.Server.{Server}
@@ -54,19 +53,6 @@ module _ {X : Type 0} where
       ap (λ b. cond b (x ∷ filter f xs) (filter f xs)) (h x)
       ∙ ap (λ ys. x ∷ ys) (all-kept f h xs)
 
-  -- one that fails, or none, is left out
-  pub left-out : (f : X → Bool) (xs : List X) (o : Option X) (x : X) → o ≡ Some x → f x ≡ false
-      → xs ≡ xs ++ filter f (cons_option o [])
-  left-out f xs o x some fails =
-      sym (append-nil xs)
-      ∙ ap (λ b. xs ++ cond b (x ∷ []) []) (sym fails)
-      ∙ ap (λ q. xs ++ filter f (cons_option q [])) (sym some)
-
-  pub no-one : (f : X → Bool) (xs : List X) (o : Option X) → o ≡ None
-      → xs ≡ xs ++ filter f (cons_option o [])
-  no-one f xs o none =
-      sym (append-nil xs) ∙ ap (λ q. xs ++ filter f (cons_option q [])) (sym none)
-
 -- Who passes a directory.
 
 module _ (n : Node) (groups : List GroupRow) (user : List ℕ) where
@@ -80,64 +66,6 @@ module _ (n : Node) (groups : List GroupRow) (user : List ℕ) where
       (leads groups n.gid user))
       ∙ ap (λ b. b || (bytes_eq n.uid user || ((n.mode.permissions.group.execute
       && is_member groups n.gid user) || leads groups n.gid user))) t
-
-  -- else the owner, the members of the group where these may search it, and its leader
-  by-class : n.mode.permissions.others.execute ≡ false → may_pass n who ≡ true
-      → (bytes_eq n.uid user || ((n.mode.permissions.group.execute && is_member groups n.gid user)
-      || leads groups n.gid user)) ≡ true
-  by-class f t =
-      sym (ap (λ b. b || (bytes_eq n.uid user || ((n.mode.permissions.group.execute
-      && is_member groups n.gid user) || leads groups n.gid user))) f)
-      ∙ pass-by-classes n.mode.permissions (bytes_eq n.uid user) (is_member groups n.gid user)
-      (leads groups n.gid user)
-      ∙ t
-
-  same : (name : List ℕ) → bytes_eq name user ≡ true → user ≡ name
-  same name t = grind (arith, bytes_eq-Decides name user)
-
-  either : (a b : Bool) → (a || b) ≡ true → (a ≡ true) ⊎ (b ≡ true)
-  either true b t = inl refl
-  either false b t = inr t
-
-  both : (a b : Bool) → (a && b) ≡ true → (a ≡ true) × (b ≡ true)
-  both true b t = (refl, t)
-  both false b t = let no : false ≡ true = t in absurd (cc)
-
-  module _ (closed : n.mode.permissions.others.execute ≡ false) (passes : may_pass n who ≡ true) where
-    -- of a group that isn't listed the user of its name is the only one
-    pub pass-unlisted : group_of n.gid groups ≡ None → (user ≡ n.uid) ⊎ (user ≡ n.gid)
-    pass-unlisted none =
-        elim (either (bytes_eq n.uid user) _ (by-class closed passes)) [
-          | inl owner ↦ inl (same n.uid owner)
-          | inr group ↦ inr (same n.gid (elim (either _ (leads groups n.gid user) group) [
-            | inl member ↦ sym (ap (λ o. option_map_or (has_member user) o (bytes_eq n.gid user)) none)
-                ∙ (both n.mode.permissions.group.execute _ member).1
-            | inr leader ↦ sym (ap (λ o. option_map_or (λ g. bytes_eq g.leader user) o
-                (bytes_eq n.gid user)) none)
-                ∙ leader
-          ]))
-        ]
-
-    -- of a group that is listed
-    pub pass-listed : (g : Group) → group_of n.gid groups ≡ Some g
-        → (user ≡ n.uid) ⊎ (((n.mode.permissions.group.execute ≡ true)
-        × (list_any (bytes_eq user) g.members ≡ true)) ⊎ (user ≡ g.leader))
-    pass-listed g some =
-        elim (either (bytes_eq n.uid user) _ (by-class closed passes)) [
-          | inl owner ↦ inl (same n.uid owner)
-          | inr group ↦ inr (elim (either _ (leads groups n.gid user) group) [
-            | inl member ↦
-                let parts = both n.mode.permissions.group.execute _ member in
-                inl (
-                  parts.0,
-                  sym (ap (λ o. option_map_or (has_member user) o (bytes_eq n.gid user)) some)
-                      ∙ parts.1,
-                )
-            | inr leader ↦ inr (same g.leader (sym (ap (λ o. option_map_or (λ g. bytes_eq g.leader user)
-                o (bytes_eq n.gid user)) some)
-                ∙ leader))
-          ])
-        ]
 
 -- A member that everybody may search is passed by each user.
 pub public-passed : (forest : List Server) (groups : List GroupRow) (user : List ℕ) (m : Member)
