@@ -30,31 +30,43 @@ pub(crate) fn push_strangers<T: Tree>(
     teller: &Teller<'_, '_, T>,
     statements: &[Statement<'_, T::Alloc>],
 ) -> Result<(), NoMemory> {
-    let alloc = *text.allocator();
-    let mut known = known_in(alloc, teller.world)?;
+    let mut known = known_in(*text.allocator(), teller.world)?;
+    push_unknown(text, teller, statements, &mut known)
+}
+
+// Adds the names of these lines that are not known, which are known then.
+fn push_unknown<T: Tree>(
+    text: &mut String<T::Alloc>,
+    teller: &Teller<'_, '_, T>,
+    statements: &[Statement<'_, T::Alloc>],
+    known: &mut Known<T::Alloc>,
+) -> Result<(), NoMemory> {
     for statement in statements {
-        let at = (Section::World, statement.line);
-        match LineWords::read(statement.words.as_slice()) {
-            Ok(LineWords::Dir(node)) => push_names(
-                text,
-                teller,
-                at,
-                &[node.uid],
-                &mut known.users,
-            )?,
-            Ok(LineWords::File(node, _)) => {
-                push_names(text, teller, at, &[node.uid], &mut known.users)?;
-            }
-            Ok(LineWords::Group(name, leader, members)) => {
-                if !is_one_of(name, &known.groups) {
-                    push_names(text, teller, at, &[leader], &mut known.users)?;
-                }
-                push_names(text, teller, at, members, &mut known.users)?;
-            }
-            _ => {}
-        }
+        push_unknown_in(text, teller, statement, known)?;
     }
     Ok(())
+}
+
+// Adds the owner, the group leader and the members of a line who are not known, who are known then.
+fn push_unknown_in<T: Tree>(
+    text: &mut String<T::Alloc>,
+    teller: &Teller<'_, '_, T>,
+    statement: &Statement<'_, T::Alloc>,
+    known: &mut Known<T::Alloc>,
+) -> Result<(), NoMemory> {
+    let at = (Section::World, statement.line);
+    match LineWords::read(statement.words.as_slice()) {
+        Ok(LineWords::Dir(node)) | Ok(LineWords::File(node, _)) => {
+            push_names(text, teller, at, &[node.uid], &mut known.users)
+        }
+        Ok(LineWords::Group(name, leader, members)) => {
+            if !is_one_of(name, &known.groups) {
+                push_names(text, teller, at, &[leader], &mut known.users)?;
+            }
+            push_names(text, teller, at, members, &mut known.users)
+        }
+        _ => Ok(()),
+    }
 }
 
 // Adds the names of a line that are not known, which are known then.
