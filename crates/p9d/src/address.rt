@@ -49,11 +49,16 @@ fn place_of(text: &str) -> Result<Place<'_>, BadAddress<'_>> {
     match text.strip_prefix(UNIX) {
         Some("") => Err(BadAddress::Place(text)),
         Some(path) => Ok(Place::Unix(path)),
-        None => match text.parse::<SocketAddr>() {
-            Ok(address) => Ok(Place::Ip(address)),
-            Err(_) => Err(BadAddress::Place(text)),
+        None => match ip_of(text) {
+            Some(address) => Ok(Place::Ip(address)),
+            None => Err(BadAddress::Place(text)),
         },
     }
+}
+
+// The IP address with a port that a text writes, if it writes one.
+fn ip_of(text: &str) -> Option<SocketAddr> {
+    text.parse::<SocketAddr>().ok()
 }
 
 // The users that a text names, with a comma between them.

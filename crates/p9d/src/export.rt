@@ -156,8 +156,12 @@ fn with_guard<T: KeptTree>(
     }
 }
 
-// Says why an export can't be served, as `p9_admin explain` does.
+// Says why an export can't be served, as `p9_admin explain` does. Of a file that has nothing but blanks that
+// would explain the sample world of p9.
 fn say_why<T: KeptTree>(rt: &HostRuntime, file: &str, input: &[u8]) -> Failure {
+    if input.trim_ascii().is_empty() {
+        return PROGRAM.refuse(rt, file, &"the file is empty", Failure::Refused);
+    }
     match explained::<T>(rt, file, input) {
         Ok(()) => PROGRAM.refuse(rt, file, &"not served", Failure::Refused),
         Err(failure) => failure,

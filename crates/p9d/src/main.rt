@@ -30,7 +30,7 @@ use crate::keeper::Keeper;
 use crate::kept_tree::{KeptTree, Trees};
 use crate::serve::Daemon;
 use crate::visitors::Visitors;
-use crate::words::{Asked, SHAPE, asked_in};
+use crate::words::{Asked, SHAPE, asked_in, limit_of_none};
 use clap::ArgMatches;
 use p9_base::User;
 use p9_guard::Guard;
@@ -65,6 +65,10 @@ fn run_words(rt: &HostRuntime, matches: &ArgMatches<'_>) -> Result<u8, Failure> 
     }
     if matches.get_str("folder").is_none() && matches.get_one::<usize>("seconds").is_some() {
         return Err(PROGRAM.refuse(rt, "-s", &"nothing is kept without -d", Failure::BadWords));
+    }
+    if let Some(option) = limit_of_none(matches) {
+        let why = "no client could stay";
+        return Err(PROGRAM.refuse_option(rt, option, "0", &why));
     }
     match (asked_in(matches), matches.get_strs("address")) {
         (Some(asked), Some(addresses)) => run_asked::<Client<Visiting>, Trees>(

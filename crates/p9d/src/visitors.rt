@@ -83,13 +83,7 @@ impl Visitors {
         if self.visits.len() >= self.limits.clients {
             return Some("too many clients");
         }
-        let same = self
-            .visits
-            .as_slice()
-            .iter()
-            .filter(|visit| visit.origin == origin)
-            .count();
-        if same >= self.limits.per_address {
+        if count_from(self.visits.as_slice(), origin) >= self.limits.per_address {
             return Some("too many clients from there");
         }
         None
@@ -135,6 +129,11 @@ impl Visitors {
             None => false,
         }
     }
+}
+
+// How many of these clients came from there.
+fn count_from(visits: &[Rc<Visit>], origin: Origin) -> usize {
+    visits.iter().filter(|visit| visit.origin == origin).count()
 }
 
 // That a client came.

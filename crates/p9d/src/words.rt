@@ -46,12 +46,31 @@ pub(crate) fn asked_in<'a>(words: &ArgMatches<'a>) -> Option<Asked<'a>> {
         sync_seconds: words.get_one::<usize>("seconds").unwrap_or(SYNC_SECONDS),
         is_anyway: words.get_flag("anyway"),
         is_quiet: words.get_flag("quiet"),
-        limits: Limits {
-            clients: words.get_one::<usize>("clients").unwrap_or(CLIENTS),
-            per_address: words.get_one::<usize>("per-address").unwrap_or(PER_ADDRESS),
-            idle: words.get_one::<usize>("idle"),
-        },
+        limits: limits_in(words),
     })
+}
+
+// The limits of clients that they ask for.
+fn limits_in(words: &ArgMatches<'_>) -> Limits {
+    Limits {
+        clients: words.get_one::<usize>("clients").unwrap_or(CLIENTS),
+        per_address: words.get_one::<usize>("per-address").unwrap_or(PER_ADDRESS),
+        idle: words.get_one::<usize>("idle"),
+    }
+}
+
+/// The first option that sets a limit of 0, with which no client could stay.
+pub(crate) fn limit_of_none(words: &ArgMatches<'_>) -> Option<&'static str> {
+    if words.get_one::<usize>("clients") == Some(0) {
+        return Some("--clients");
+    }
+    if words.get_one::<usize>("per-address") == Some(0) {
+        return Some("--per-address");
+    }
+    if words.get_one::<usize>("idle") == Some(0) {
+        return Some("--idle");
+    }
+    None
 }
 
 // The options, and the word.
