@@ -1,8 +1,10 @@
 -- Ranks: how many users are listed before one.
-use Rattle.std.specs.Prelude.{◌≡◌, ℕ, Bool, true, List, Some, slice_get}
+use Rattle.std.specs.Prelude.{◌≡◌, ◌⊎◌, ℕ, Bool, true, IsTrue, List, Some, slice_get}
 use Rattle.std.specs.BTreeMap.{is_at}
 use Rattle.std.specs.List.{list_any}
 use Rattle.std.specs.Ordering.{nat_cmp}
+use Rattle.p9_base.specs.Group.{Group, has_member}
+use Rattle.p9_cert.specs.declared.classes.Classes.{Classes}
 
 -- whether a rank is among some
 abbrev pub has_rank : List ℕ → ℕ → Bool
@@ -13,3 +15,9 @@ pub record HasAdded (Is : List ℕ → Type 0) (users : List (List ℕ)) (old ne
   pub kept : (i : ℕ) → has_rank old i ≡ true → has_rank new i ≡ true
   pub added : (i : ℕ) (user : List ℕ) → slice_get users i ≡ Some user → Is user
       → has_rank new i ≡ true
+
+-- the user is of one of these classes of a group: one of its members, or its leader
+abbrev pub IsOfGroup : Classes → Group → List ℕ → Type 0
+IsOfGroup classes group user =
+    (IsTrue classes.members × IsTrue (has_member user group))
+    ⊎ (IsTrue classes.leader × (user ≡ group.leader))

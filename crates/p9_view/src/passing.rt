@@ -8,13 +8,13 @@ ghost use Rattle.p9_space.specs.Rights.{who_view};
 ghost use Rattle.p9_space.specs.Walk.{is_searched};
 ghost use Rattle.p9_view.specs.Passing.{is_passed, is_passed_by, is_public, may_pass_by, passers};
 ghost use Rattle.p9_view.specs.Passing.{passers_text, passing_text, user_text, users_text};
-ghost use Rattle.p9_view.specs.Ranks.{HasAdded};
+ghost use Rattle.p9_view.specs.Ranks.{HasAdded, IsOfGroup};
 
 use crate::ranks::Ranks;
 use crate::text::print_shown;
 use crate::way::is_searched;
 use p9_base::{Groups, NoMemory, User};
-use p9_cert::may_pass;
+use p9_cert::{Classes, may_pass};
 use p9_space::{Member, Who};
 use p9_tree::{Forest, Node, Tree};
 use p9_world::World;
@@ -271,8 +271,8 @@ fn add_passers<T: Tree>(
     }
 }
 
-// Adds the ranks of the listed users who may pass a directory that isn't everybody's to search: its
-// owner, the leader of its group, and the members of its group where these may search it.
+// Adds the ranks of the listed users who may pass a directory that isn't everybody's to search, class by
+// class.
 fn add_users_of<A: Allocator, B: Allocator + Copy>(
     groups: &Groups<B>,
     ranks: &Ranks<B>,
@@ -284,15 +284,31 @@ fn add_users_of<A: Allocator, B: Allocator + Copy>(
         (λ user. IsTrue (may_pass dir.now (record { user = user; groups = groups.now })))
         ranks.now.users.keys named.old.keys named.new.keys) }
 {
-    ranks.add(dir.uid(), named)?;
+    let classes = Classes::to_pass(dir);
+    ranks.add_if(classes.owner, dir.uid(), named)?;
     let gid = dir.gid();
-    let Some(group) = groups.get(gid) else {
-        return ranks.add(gid, named);
-    };
-    if dir.mode().permissions.group.execute {
-        ranks.add_all(group.members(), named)?;
+    match groups.get(gid) {
+        Some(group) => add_users_in(classes, group.members(), group.leader(), ranks, named),
+        None => add_users_in(classes, &[*gid], gid, ranks, named),
     }
-    ranks.add(group.leader(), named)
+}
+
+// Adds the ranks of the listed users of these classes of a group.
+fn add_users_in<A: Allocator + Copy>(
+    classes: Classes,
+    members: &[User],
+    leader: &User,
+    ranks: &Ranks<A>,
+    named: &mut BTreeSet<usize, A>,
+) -> Result<(), NoMemory>
+    ensures { OnOk result (HasAdded
+        (IsOfGroup classes (record { leader = leader.now; members = members.now }))
+        ranks.now.users.keys named.old.keys named.new.keys) }
+{
+    if classes.members {
+        ranks.add_all(members, named)?;
+    }
+    ranks.add_if(classes.leader, leader, named)
 }
 
 // What is said of a place that all listed users pass, of whom there are so many.

@@ -52,6 +52,22 @@ impl<A: Allocator + Copy> Ranks<A> {
         Ok(())
     }
 
+    /// Adds the rank of the user of this name, if that is so and he is listed.
+    pub fn add_if(
+        &self,
+        is_so: bool,
+        name: &User,
+        found: &mut BTreeSet<usize, A>,
+    ) -> Result<(), NoMemory>
+        ensures { OnOk result (HasAdded (λ user. IsTrue is_so × (user ≡ name.now))
+            self.now.users.keys found.old.keys found.new.keys) }
+    {
+        if is_so {
+            return self.add(name, found);
+        }
+        Ok(())
+    }
+
     /// Adds the ranks of the users of these names who are listed.
     pub fn add_all(&self, names: &[User], found: &mut BTreeSet<usize, A>) -> Result<(), NoMemory>
         ensures { OnOk result (HasAdded (λ user. IsTrue (list_any (bytes_eq user) names.now))
