@@ -156,16 +156,23 @@ fn with_guard<T: KeptTree>(
     }
 }
 
-// Says why an export can't be served, as `p9_admin explain` does. Of a file that has nothing but blanks that
-// would explain the sample world of p9.
+// Says why an export can't be served, as `p9_admin explain` does. For a blank file that would be of the sample
+// world of p9.
 fn say_why<T: KeptTree>(rt: &HostRuntime, file: &str, input: &[u8]) -> Failure {
-    if input.trim_ascii().is_empty() {
+    if is_blank(input) {
         return PROGRAM.refuse(rt, file, &"the file is empty", Failure::Refused);
     }
     match explained::<T>(rt, file, input) {
         Ok(()) => PROGRAM.refuse(rt, file, &"not served", Failure::Refused),
         Err(failure) => failure,
     }
+}
+
+// Whether an input has nothing but blanks, tabs and newlines.
+fn is_blank(input: &[u8]) -> bool {
+    input
+        .iter()
+        .all(|byte| matches!(byte, b' ' | b'\t' | b'\n'))
 }
 
 // Says what is wrong with an export.
