@@ -1,48 +1,31 @@
 -- What a crash leaves while a block is added to a file.
-use Rattle.std.proofs.Common.{◌≡◌, ◌⊎◌, inl, inr, ℕ, zero, suc, ◌+◌, ◌-◌, ◌<◌, ◌≤◌, ◌^◌, Bool, true, false, ltb}
-use Rattle.std.proofs.Common.{List, [], ◌∷◌, ◌++◌, length, take, drop, None, get_or, refl, sym, ap, subst, ◌∙◌}
-use Rattle.std.proofs.Common.{append_assoc, arith, length-append}
-use Rattle.std.proofs.Math.Seq.{take-append-add}
-use Rattle.std.proofs.lemmas.Bool.{ltb-false, ltb-true}
-use Rattle.std.proofs.lemmas.List.{append-nil, drop_all, length-take, take-take, take_at}
-use Rattle.byteorder.specs.Endian.{little_number}
+use Rattle.std.proofs.Common.{◌≡◌, ◌⊎◌, inl, inr, ⊎_elim, ℕ, ◌+◌, ◌<◌, ◌≤◌, ◌^◌, max}
+use Rattle.std.proofs.Common.{List, [], ◌∷◌, ◌++◌, length, take, drop, get_or, sym, ap, subst, ◌∙◌}
+use Rattle.std.proofs.Common.{append_assoc, arith, length-append, take-append-drop}
+use Rattle.std.proofs.lemmas.List.{drop_at, length-take-le, take-take, take_at}
 use Rattle.p9_log.specs.declared.crash.Crash.{Crash}
 use Rattle.p9_log.specs.declared.crash.Crash.TheVariants.{Killed, Stopped}
-use Rattle.p9_log.specs.Blocks.{number, block_at, content_in}
-use Rattle.p9_log.specs.Device.{After, Holds, IsWritten, LeavesOnly, Only, Passes}
+use Rattle.p9_log.specs.Blocks.{number, content_in}
+use Rattle.p9_log.specs.Device.{After, Holds, IsSameTo, IsWritten, LeavesOnly, Only, Passes}
 use Rattle.p9_log.specs.Log.{IsAppended}
 use Rattle.p9_log.specs.Rest.{block, staged, Begin, Parts, between, IsAtRest}
-use Rattle.p9_log.proofs.Kept.{known}
-use Rattle.p9_log.proofs.Moments.{begins}
-use Rattle.p9_log.proofs.Readings.{block-parts, length-number, none_unless, number-reads, short, shut}
-use Rattle.p9_log.proofs.Rest.{runs-stop, parts-append, split-killed, split-stopped, is_split}
-use Rattle.p9_log.proofs.Splits.{Known, blocks-long, front-long, front-stopped, front-same}
-use Rattle.p9_log.proofs.Writes.{holds-at, killed-at, torn-front, as-long}
+use Rattle.p9_log.proofs.Moments.{begins, goes_on}
+use Rattle.p9_log.proofs.Readings.{length-number, shut}
+use Rattle.p9_log.proofs.Rest.{runs-stop, parts-append, split-killed, split-stopped, is_split, at_rest}
+use Rattle.p9_log.proofs.Splits.{blocks-long, front-long, front-stopped}
+use Rattle.p9_log.proofs.Writes.{holds-front, held-gate, killed-gate, length-holds, same-to, torn-front, as-long}
 
--- a front of a block without all its bytes is none
-unfinished : (bytes more : List ℕ) (m : ℕ) → length bytes < 2 ^ 64 → m < 8 + length bytes
-    → block_at Stopped (1 ∷ 1 ∷ take m ((number (length bytes) ++ bytes) ++ more)) ≡ None
-unfinished bytes more m small few =
-    none_unless _ (λ x e.
-    let size : List ℕ = number (length bytes) in
-    let all : List ℕ = (size ++ bytes) ++ more in
-    let b = block-parts Stopped (1 ∷ 1 ∷ take m all) x e in
-    let parted : take m all ≡ b.head ++ (x.0 ++ x.2) =
-    ap (drop 2) b.whole ∙ append_assoc b.head x.0 x.2 in
-    let long : length (take m all) ≡ 8 + (length x.0 + length x.2) =
-    ap length parted ∙ length-append b.head (x.0 ++ x.2) ∙ omega (arith, b.eight, length-append x.0 x.2) in
-    let least : 8 ≤ m = omega (arith, long, length-take m all) in
-    let same : b.head ≡ size =
-    sym (take_at b.head (x.0 ++ x.2) 8 b.eight) ∙ ap (take 8) (sym parted) ∙ take-take 8 m all least
-    ∙ ap (take 8) (append_assoc size bytes more) ∙ take_at size (bytes ++ more) 8 (length-number (length bytes)) in
-    let sizes : length x.0 ≡ length bytes =
-    sym b.is ∙ ap (little_number 8) same ∙ number-reads (length bytes) small in
-    absurd (omega (arith, long, sizes, few, length-take m all)))
+-- how many bytes are written behind the gates of a block
+pub length-staged : (bytes : List ℕ) → length (staged bytes) ≡ 10 + length bytes
+length-staged bytes =
+    omega (
+      arith,
+      length-append (number (length bytes) ++ bytes) (1 ∷ 0 ∷ []),
+      length-append (number (length bytes)) bytes,
+      length-number (length bytes),
+    )
 
-module _ (file : List ℕ) (kept end : ℕ) (r : IsAtRest file kept end) (bytes : List ℕ) (small : length bytes < 2 ^ 64) where
-  front : List ℕ
-  front = take kept file
-
+module _ (file : List ℕ) (kept end : ℕ) (r : IsAtRest file kept end) where
   abbrev gate : ℕ
   gate = get_or file kept 0
 
@@ -52,146 +35,251 @@ module _ (file : List ℕ) (kept end : ℕ) (r : IsAtRest file kept end) (bytes 
   long : length blocks ≡ end
   long = blocks-long file kept end r.split
 
-  is : file ≡ blocks ++ 1 ∷ 0 ∷ []
+  is : file ≡ blocks ++ 1 ∷ 0 ∷ drop (end + 2) file
   is = r.split.whole ∙ ap (λ (bs : List ℕ). blocks ++ bs) r.next
+
+  -- the gates of the next block are there
+  pub reaches : end + 2 ≤ length file
+  reaches = omega (arith, ap length is, length-append blocks (1 ∷ 0 ∷ drop (end + 2) file), long)
 
   gate-at : length (blocks ++ 1 ∷ []) ≡ end + 1
   gate-at = omega (arith, long, length-append blocks (1 ∷ []))
 
-  -- the write gate is the last byte
-  at_gate : file ≡ (blocks ++ 1 ∷ []) ++ 0 ∷ []
-  at_gate = is ∙ sym (append_assoc blocks (1 ∷ []) (0 ∷ []))
+  taken : take (end + 2) file ≡ blocks ++ 1 ∷ 0 ∷ []
+  taken =
+      ap (take (end + 2)) (is ∙ sym (append_assoc blocks (1 ∷ 0 ∷ []) (drop (end + 2) file)))
+      ∙ take_at (blocks ++ 1 ∷ 0 ∷ []) (drop (end + 2) file) (end + 2) (omega (arith, long, length-append blocks (1 ∷ 0 ∷ [])))
 
-  abbrev sized : List ℕ
-  sized = number (length bytes) ++ bytes
+  -- a file that is the same up to the gates of the next block
+  module _ (c : List ℕ) (same : take (end + 2) c ≡ take (end + 2) file) where
+    parted : c ≡ blocks ++ 1 ∷ 0 ∷ drop (end + 2) c
+    parted =
+        sym (take-append-drop (end + 2) c) ∙ ap (λ (bs : List ℕ). bs ++ drop (end + 2) c) (same ∙ taken)
+        ∙ append_assoc blocks (1 ∷ 0 ∷ []) (drop (end + 2) c)
 
-  -- all of the block is there, and this behind it
-  abbrev inner : List ℕ
-  inner = between kept end file ++ block 1 bytes
+    pub same-killed : content_in Killed c ≡ content_in Killed file
+    same-killed =
+        ap (content_in Killed) parted
+        ∙ runs-stop Killed Stopped blocks (content_in Killed file) (1 ∷ 0 ∷ drop (end + 2) c) r.split.parts.written (shut Stopped 1 (drop (end + 2) c))
 
-  opened : (tail : List ℕ) → (blocks ++ 1 ∷ []) ++ (1 ∷ (sized ++ tail)) ≡ (take kept file ++ gate ∷ inner) ++ tail
-  opened tail =
-      append_assoc blocks (1 ∷ []) (1 ∷ (sized ++ tail))
-      ∙ sym (append_assoc blocks (block 1 bytes) tail)
-      ∙ ap (λ (bs : List ℕ). bs ++ tail) (append_assoc (take kept file) (gate ∷ between kept end file) (block 1 bytes))
+    pub same-front : take (kept + 1) c ≡ take (kept + 1) file
+    same-front =
+        let o = r.split.order in
+        sym (take-take (kept + 1) (end + 2) c (omega arith)) ∙ ap (take (kept + 1)) same ∙ take-take (kept + 1) (end + 2) file (omega arith)
 
-  more-parts : Parts gate (take kept file) inner (content_in Stopped file) (content_in Killed file ++ bytes)
-  more-parts = parts-append gate (take kept file) (between kept end file) (content_in Stopped file) (content_in Killed file) r.split.parts bytes small
+    pub same-stopped : content_in Stopped c ≡ content_in Stopped file
+    same-stopped = front-stopped file kept end r.split c same-front
 
-  opened-killed : (c tail : List ℕ) → c ≡ (blocks ++ 1 ∷ []) ++ (1 ∷ (sized ++ tail)) → block_at Stopped tail ≡ None
-      → content_in Killed c ≡ content_in Killed file ++ bytes
-  opened-killed c tail e none =
-      ap (content_in Killed) (e ∙ opened tail)
-      ∙ split-killed gate (take kept file) inner tail (content_in Stopped file) (content_in Killed file ++ bytes) more-parts r.split.gate none
+    pub same-rest : IsAtRest c kept end
+    same-rest =
+        let o = r.split.order in
+        let kept_is = front-long file kept end r.split in
+        let ends : end ≡ length (take kept file) + 1 + length (between kept end file) =
+        omega (arith, long, length-append (take kept file) (gate ∷ between kept end file)) in
+        let s = is_split gate (take kept file) (between kept end file) (1 ∷ 0 ∷ drop (end + 2) c) (content_in Stopped file) (content_in Killed file) r.split.parts r.split.gate (shut Stopped 1 (drop (end + 2) c))
+        c kept end parted (sym kept_is) ends in
+        at_rest c kept end (drop (end + 2) c) s.0 s.1
 
-  -- so many bytes are written behind the open write gate
-  front-killed : (c : List ℕ) (m : ℕ) (few : Bool) → ltb m (8 + length bytes) ≡ few
-      → c ≡ (blocks ++ 1 ∷ []) ++ (1 ∷ take m (sized ++ 1 ∷ 0 ∷ []))
-      → (content_in Killed c ≡ content_in Killed file) ⊎ (content_in Killed c ≡ content_in Killed file ++ bytes)
-  front-killed c m true few e =
-      let front : List ℕ = take m (sized ++ 1 ∷ 0 ∷ []) in
-      inl (ap (content_in Killed) (e ∙ append_assoc blocks (1 ∷ []) (1 ∷ front))
-      ∙ runs-stop Killed Stopped blocks (content_in Killed file) (1 ∷ 1 ∷ front) r.split.parts.written
-      (unfinished bytes (1 ∷ 0 ∷ []) m small (ltb-true _ _ few)))
-  front-killed c m false many e =
-      let next : List ℕ = 1 ∷ 0 ∷ [] in
-      let k : ℕ = m - length sized in
-      let size : length sized ≡ 8 + length bytes = omega (
-        arith,
-        length-append (number (length bytes)) bytes,
-        length-number (length bytes),
-      ) in
-      let on : length sized + k ≡ m = omega (arith, size, ltb-false _ _ many) in
-      let whole : take m (sized ++ next) ≡ sized ++ take k next =
-      ap (λ (n : ℕ). take n (sized ++ next)) (sym on) ∙ take-append-add sized next k in
-      inr (opened-killed c (take k next) (e ∙ ap (λ (bs : List ℕ). (blocks ++ 1 ∷ []) ++ (1 ∷ bs)) whole)
-      (short Stopped (take k next) (omega (arith, length-take k next))))
+  -- a block is behind the gates, and those of the next are behind it
+  module _ (bytes more : List ℕ) (small : length bytes < 2 ^ 64) (behind : drop (end + 2) file ≡ staged bytes ++ more) where
+    abbrev sized : List ℕ
+    sized = number (length bytes) ++ bytes
 
-  written-at : (c : List ℕ) (n : ℕ)
-      → c ≡ (blocks ++ 1 ∷ []) ++ (take n (staged bytes) ++ drop (length (take n (staged bytes))) (0 ∷ []))
-      → (content_in Killed c ≡ content_in Killed file) ⊎ (content_in Killed c ≡ content_in Killed file ++ bytes)
-  written-at c zero e = inl (ap (content_in Killed) (e ∙ sym at_gate))
-  written-at c (suc m) e =
-      let front : List ℕ = take m (sized ++ 1 ∷ 0 ∷ []) in
-      front-killed c m (ltb m (8 + length bytes)) refl
-      (e ∙ ap (λ (bs : List ℕ). (blocks ++ 1 ∷ []) ++ (1 ∷ (front ++ bs))) (drop_all (length front) [] (omega arith))
-      ∙ ap (λ (bs : List ℕ). (blocks ++ 1 ∷ []) ++ (1 ∷ bs)) (append-nil front))
+    -- all of the block is there
+    abbrev inner : List ℕ
+    inner = between kept end file ++ block 1 bytes
 
-  -- a killed process leaves a front of the block, or all of it
-  pub written-killed : (c : List ℕ) → IsWritten Killed (end + 1) (staged bytes) file c
-      → (content_in Killed c ≡ content_in Killed file) ⊎ (content_in Killed c ≡ content_in Killed file ++ bytes)
-  written-killed c written =
-      let at = killed-at (blocks ++ 1 ∷ []) (0 ∷ []) (staged bytes) c (end + 1) gate-at
-      (subst (λ f. IsWritten Killed (end + 1) (staged bytes) f c) at_gate written) in
-      written-at c at.0 at.1
+    at_gate : file ≡ (blocks ++ 1 ∷ []) ++ 0 ∷ (staged bytes ++ more)
+    at_gate =
+        is ∙ ap (λ (bs : List ℕ). blocks ++ 1 ∷ 0 ∷ bs) behind ∙ sym (append_assoc blocks (1 ∷ []) (0 ∷ (staged bytes ++ more)))
 
-  pub record IsLonger (new : List ℕ) : Type 0 where
-    pub at_rest : IsAtRest new kept (end + (10 + length bytes))
-    pub written : content_in Killed new ≡ content_in Killed file ++ bytes
-    pub synced : content_in Stopped new ≡ content_in Stopped file
-    pub front : take (kept + 1) new ≡ take (kept + 1) file
+    staged-parts : staged bytes ++ more ≡ sized ++ 1 ∷ 0 ∷ more
+    staged-parts = append_assoc sized (1 ∷ 0 ∷ []) more
 
-  pub is_longer : (new : List ℕ) → Holds file (end + 1) (staged bytes) new → IsLonger new
-  is_longer new holds =
-      let held : new ≡ (blocks ++ 1 ∷ []) ++ staged bytes =
-      holds-at (blocks ++ 1 ∷ []) (0 ∷ []) (staged bytes) new (end + 1) gate-at
-      (subst (λ f. Holds f (end + 1) (staged bytes) new) at_gate holds)
-      ∙ ap (λ (bs : List ℕ). (blocks ++ 1 ∷ []) ++ (staged bytes ++ bs)) (drop_all (length (staged bytes)) (0 ∷ []) (omega arith))
-      ∙ ap (λ (bs : List ℕ). (blocks ++ 1 ∷ []) ++ bs) (append-nil (staged bytes)) in
-      let kept_is = front-long file kept end r.split in
-      let o = r.split.order in
-      let ends : end + (10 + length bytes) ≡ length (take kept file) + 1 + length inner = omega (
-        arith,
-        long,
-        kept_is,
-        length-append (take kept file) (gate ∷ between kept end file),
-        length-append (between kept end file) (block 1 bytes),
-        length-append (number (length bytes)) bytes,
-        length-number (length bytes),
-      ) in
-      let s = is_split gate (take kept file) inner (1 ∷ 0 ∷ []) (content_in Stopped file) (content_in Killed file ++ bytes) more-parts r.split.gate (shut Stopped 1 [])
-      new kept (end + (10 + length bytes)) (held ∙ opened (1 ∷ 0 ∷ [])) (sym kept_is) ends (omega arith) in
-      record {
-        at_rest = record { split = s.0; next = s.1 };
-        written = opened-killed new (1 ∷ 0 ∷ []) held (shut Stopped 1 []);
-        synced = ap (content_in Stopped) (held ∙ opened (1 ∷ 0 ∷ []))
-            ∙ split-stopped gate (take kept file) inner (1 ∷ 0 ∷ []) (content_in Stopped file) (content_in Killed file ++ bytes) more-parts r.split.gate (shut Stopped 1 []);
-        front = ap (take (kept + 1)) (held ∙ opened (1 ∷ 0 ∷ []) ∙ append_assoc (take kept file) (gate ∷ inner) (1 ∷ 0 ∷ []))
-            ∙ front-same file kept end r.split (inner ++ 1 ∷ 0 ∷ []);
-      }
+    opened : (blocks ++ 1 ∷ []) ++ 1 ∷ (staged bytes ++ more) ≡ (take kept file ++ gate ∷ inner) ++ 1 ∷ 0 ∷ more
+    opened =
+        append_assoc blocks (1 ∷ []) (1 ∷ (staged bytes ++ more))
+        ∙ ap (λ (bs : List ℕ). blocks ++ 1 ∷ 1 ∷ bs) staged-parts
+        ∙ sym (append_assoc blocks (block 1 bytes) (1 ∷ 0 ∷ more))
+        ∙ ap (λ (bs : List ℕ). bs ++ 1 ∷ 0 ∷ more) (append_assoc (take kept file) (gate ∷ between kept end file) (block 1 bytes))
 
-  -- for each kind of crash
-  pub append-crash : (how : Crash) (outcomes : List ℕ → Type 0) → Known (kept + 1) file how outcomes
-      → (c : List ℕ) → After (IsWritten how (end + 1) (staged bytes)) outcomes c → IsAppended how file bytes c
-  append-crash Killed outcomes all c after =
-      written-killed c (subst (λ f. IsWritten Killed (end + 1) (staged bytes) f c) (all after.0 after.1) after.2)
-  append-crash Stopped outcomes begin c after =
-      let o = r.split.order in
-      let same = begin after.0 after.1 in
-      front-stopped file kept end r.split c (torn-front (kept + 1) (end + 1) (length (staged bytes)) after.0 c (omega arith) (as-long (kept + 1) file after.0 (omega (arith, r.split.size)) same) after.2 ∙ same)
+    more-parts : Parts gate (take kept file) inner (content_in Stopped file) (content_in Killed file ++ bytes)
+    more-parts = parts-append gate (take kept file) (between kept end file) (content_in Stopped file) (content_in Killed file) r.split.parts bytes small
+
+    opened-killed : (c : List ℕ) → c ≡ (blocks ++ 1 ∷ []) ++ 1 ∷ (staged bytes ++ more) → content_in Killed c ≡ content_in Killed file ++ bytes
+    opened-killed c e =
+        ap (content_in Killed) (e ∙ opened)
+        ∙ split-killed gate (take kept file) inner (1 ∷ 0 ∷ more) (content_in Stopped file) (content_in Killed file ++ bytes) more-parts r.split.gate (shut Stopped 1 more)
+
+    -- a killed process leaves the write gate closed, or open
+    pub opened-or-not : (c : List ℕ) → IsWritten Killed (end + 1) (1 ∷ []) file c
+        → (content_in Killed c ≡ content_in Killed file) ⊎ (content_in Killed c ≡ content_in Killed file ++ bytes)
+    opened-or-not c written =
+        ⊎_elim (λ e. inl (ap (content_in Killed) (e ∙ sym at_gate))) (λ e. inr (opened-killed c e))
+        (killed-gate (blocks ++ 1 ∷ []) (staged bytes ++ more) c 0 1 (end + 1) gate-at
+        (subst (λ f. IsWritten Killed (end + 1) (1 ∷ []) f c) at_gate written))
+
+    pub record IsOpened (new : List ℕ) : Type 0 where
+      pub rest : IsAtRest new kept (end + (10 + length bytes))
+      pub written : content_in Killed new ≡ content_in Killed file ++ bytes
+      pub synced : content_in Stopped new ≡ content_in Stopped file
+
+    pub is_opened : (new : List ℕ) → Holds file (end + 1) (1 ∷ []) new → IsOpened new
+    is_opened new holds =
+        let held : new ≡ (blocks ++ 1 ∷ []) ++ 1 ∷ (staged bytes ++ more) =
+        held-gate (blocks ++ 1 ∷ []) (staged bytes ++ more) new 0 1 (end + 1) gate-at
+        (subst (λ f. Holds f (end + 1) (1 ∷ []) new) at_gate holds) in
+        let kept_is = front-long file kept end r.split in
+        let ends : end + (10 + length bytes) ≡ length (take kept file) + 1 + length inner = omega (
+          arith,
+          long,
+          length-append (take kept file) (gate ∷ between kept end file),
+          length-append (between kept end file) (block 1 bytes),
+          length-append (number (length bytes)) bytes,
+          length-number (length bytes),
+        ) in
+        let s = is_split gate (take kept file) inner (1 ∷ 0 ∷ more) (content_in Stopped file) (content_in Killed file ++ bytes) more-parts r.split.gate (shut Stopped 1 more)
+        new kept (end + (10 + length bytes)) (held ∙ opened) (sym kept_is) ends in
+        record {
+          rest = at_rest new kept (end + (10 + length bytes)) more s.0 s.1;
+          written = opened-killed new held;
+          synced = ap (content_in Stopped) (held ∙ opened)
+              ∙ split-stopped gate (take kept file) inner (1 ∷ 0 ∷ more) (content_in Stopped file) (content_in Killed file ++ bytes) more-parts r.split.gate (shut Stopped 1 more);
+        }
 
 module _ {D : Type 0} (seen : D → List ℕ) (moment : D → ℕ) (may_leave : D → Crash → List ℕ → Type 0)
     (left_since : D → Crash → ℕ → List ℕ → Type 0)
     (alive : (file : D) → Only (seen file) (may_leave file Killed))
     (kept end : ℕ) (start : D) (r : IsAtRest (seen start) kept end)
-    (begin : Begin (kept + 1) (seen start) (may_leave start Stopped))
-    (bytes : List ℕ) (small : length bytes < 2 ^ 64) (one : D)
-    (step : (how : Crash) → Passes moment may_leave left_since how (IsWritten how (end + 1) (staged bytes)) start one) where
+    (begin : Begin (kept + 1) (seen start) (may_leave start Stopped)) (bytes : List ℕ) (one : D)
+    (first : (how : Crash) → Passes moment may_leave left_since how (IsSameTo (length (seen start))) start one) where
+  abbrev file : List ℕ
+  file = seen start
+
   abbrev P : Crash → List ℕ → Type 0
-  P how = IsAppended how (seen start) bytes
+  P how = IsAppended how file bytes
 
-  pub after-append : (how : Crash) → LeavesOnly moment left_since how (P how) start one
-  after-append how =
-      begins moment may_leave left_since how (P how) start one (IsWritten how (end + 1) (staged bytes)) (step how)
-      (append-crash (seen start) kept end r bytes small how (may_leave start how) (known seen moment may_leave left_since alive start (kept + 1) begin how))
+  before : kept + 1 ≤ end
+  before = let o = r.split.order in omega arith
 
-  pub at_last : Holds (seen start) (end + 1) (staged bytes) (seen one) → IsLonger (seen start) kept end r bytes small (seen one)
-  at_last holds = is_longer (seen start) kept end r bytes small (seen one) holds
+  enough : end + 2 ≤ length file
+  enough = reaches file kept end r
 
-  pub begin-again : IsLonger (seen start) kept end r bytes small (seen one) → Begin (kept + 1) (seen one) (may_leave one Stopped)
-  begin-again longer c now =
-      let o = r.split.order in
-      let from = (step Stopped).now c now in
-      let same = begin from.0 from.1 in
-      torn-front (kept + 1) (end + 1) (length (staged bytes)) from.0 c (omega arith) (as-long (kept + 1) (seen start) from.0 (omega (arith, r.split.size)) same) from.2
-      ∙ same ∙ sym longer.front
+  -- what is the same up to the gates, or up to the closed sync gate
+  unchanged : (c : List ℕ) → take (end + 2) c ≡ take (end + 2) file → P Killed c
+  unchanged c same = inl (same-killed file kept end r c same)
+
+  front-unchanged : (c : List ℕ) → take (kept + 1) c ≡ take (kept + 1) file → P Stopped c
+  front-unchanged c same = front-stopped file kept end r.split c same
+
+  there : (c : List ℕ) → take (kept + 1) c ≡ take (kept + 1) file → kept + 1 ≤ length c
+  there c same = as-long (kept + 1) file c (omega (arith, before, enough)) same
+
+  -- room is made
+  room-front : (c : List ℕ) → After (IsSameTo (length file)) (may_leave start Stopped) c → take (kept + 1) c ≡ take (kept + 1) file
+  room-front c after =
+      let same = begin after.0 after.1 in
+      same-to (kept + 1) (length file) after.0 c (omega (arith, before, enough)) (there after.0 same) after.2 ∙ same
+
+  room-crash : (how : Crash) (c : List ℕ) → After (IsSameTo (length file)) (may_leave start how) c → P how c
+  room-crash Killed c after =
+      unchanged c (same-to (end + 2) (length file) file c enough enough
+      (subst (λ f. IsSameTo (length file) f c) (alive start after.0 after.1) after.2))
+  room-crash Stopped c after = front-unchanged c (room-front c after)
+
+  pub after-room : (how : Crash) → LeavesOnly moment left_since how (P how) start one
+  after-room how =
+      begins moment may_leave left_since how (P how) start one (IsSameTo (length file)) (first how) (room-crash how)
+
+  module _ (same : IsSameTo (length file) file (seen one)) (two : D)
+      (second : (how : Crash) → Passes moment may_leave left_since how (IsWritten how (end + 2) (staged bytes)) one two) where
+    one-same : take (end + 2) (seen one) ≡ take (end + 2) file
+    one-same = same-to (end + 2) (length file) file (seen one) enough enough same
+
+    pub rest-one : IsAtRest (seen one) kept end
+    rest-one = same-rest file kept end r (seen one) one-same
+
+    pub room : end + 2 ≤ length (seen one)
+    room = reaches (seen one) kept end rest-one
+
+    -- the block is written behind the gates
+    body-front : (c : List ℕ) → After (IsWritten Stopped (end + 2) (staged bytes)) (may_leave one Stopped) c → take (kept + 1) c ≡ take (kept + 1) file
+    body-front c after =
+        let so_far = room-front after.0 ((first Stopped).now after.0 after.1) in
+        torn-front (kept + 1) (end + 2) (length (staged bytes)) after.0 c (omega (arith, before)) (there after.0 so_far) after.2 ∙ so_far
+
+    body-crash : (how : Crash) (c : List ℕ) → After (IsWritten how (end + 2) (staged bytes)) (may_leave one how) c → P how c
+    body-crash Killed c after =
+        let n = after.2.0 in
+        unchanged c (holds-front (seen one) (take n (staged bytes)) c (end + 2) room
+        (subst (λ f. Holds f (end + 2) (take n (staged bytes)) c) (alive one after.0 after.1) after.2.1) ∙ one-same)
+    body-crash Stopped c after = front-unchanged c (body-front c after)
+
+    pub after-body : (how : Crash) → LeavesOnly moment left_since how (P how) start two
+    after-body how =
+        goes_on moment may_leave left_since how (P how) start one two (IsWritten how (end + 2) (staged bytes)) (after-room how) (second how) (body-crash how)
+
+    module _ (small : length bytes < 2 ^ 64) (written : Holds (seen one) (end + 2) (staged bytes) (seen two)) (three : D)
+        (third : (how : Crash) → Passes moment may_leave left_since how (IsWritten how (end + 1) (1 ∷ [])) two three) where
+      two-same : take (end + 2) (seen two) ≡ take (end + 2) file
+      two-same = holds-front (seen one) (staged bytes) (seen two) (end + 2) room written ∙ one-same
+
+      pub rest-two : IsAtRest (seen two) kept end
+      rest-two = same-rest file kept end r (seen two) two-same
+
+      abbrev more : List ℕ
+      more = drop (end + 2 + length (staged bytes)) (seen one)
+
+      behind-two : drop (end + 2) (seen two) ≡ staged bytes ++ more
+      behind-two =
+          ap (drop (end + 2)) (written ∙ append_assoc (take (end + 2) (seen one)) (staged bytes) more)
+          ∙ drop_at (take (end + 2) (seen one)) (staged bytes ++ more) (end + 2) (length-take-le (end + 2) (seen one) room)
+
+      -- the write gate is opened
+      gate-front : (c : List ℕ) → After (IsWritten Stopped (end + 1) (1 ∷ [])) (may_leave two Stopped) c → take (kept + 1) c ≡ take (kept + 1) file
+      gate-front c after =
+          let so_far = body-front after.0 ((second Stopped).now after.0 after.1) in
+          torn-front (kept + 1) (end + 1) 1 after.0 c (omega (arith, before)) (there after.0 so_far) after.2 ∙ so_far
+
+      killed-two : content_in Killed (seen two) ≡ content_in Killed file
+      killed-two = same-killed file kept end r (seen two) two-same
+
+      gate-crash : (how : Crash) (c : List ℕ) → After (IsWritten how (end + 1) (1 ∷ [])) (may_leave two how) c → P how c
+      gate-crash Killed c after =
+          ⊎_elim (λ e. inl (e ∙ killed-two)) (λ e. inr (e ∙ ap (λ (bs : List ℕ). bs ++ bytes) killed-two))
+          (opened-or-not (seen two) kept end rest-two bytes more small behind-two c
+          (subst (λ f. IsWritten Killed (end + 1) (1 ∷ []) f c) (alive two after.0 after.1) after.2))
+      gate-crash Stopped c after = front-unchanged c (gate-front c after)
+
+      pub after-gate : (how : Crash) → LeavesOnly moment left_since how (P how) start three
+      after-gate how =
+          goes_on moment may_leave left_since how (P how) start two three (IsWritten how (end + 1) (1 ∷ [])) (after-body how) (third how) (gate-crash how)
+
+      pub record IsAdded : Type 0 where
+        pub rest : IsAtRest (seen three) kept (end + (10 + length bytes))
+        pub killed : content_in Killed (seen three) ≡ content_in Killed file ++ bytes
+        pub stopped : content_in Stopped (seen three) ≡ content_in Stopped file
+        pub front : Begin (kept + 1) (seen three) (may_leave three Stopped)
+        pub size : length (seen three) ≡ max (length (seen one)) (end + (10 + length bytes) + 2)
+
+      pub is_added : Holds (seen two) (end + 1) (1 ∷ []) (seen three) → IsAdded
+      is_added holds =
+          let o = is_opened (seen two) kept end rest-two bytes more small behind-two (seen three) holds in
+          let last : take (kept + 1) (seen three) ≡ take (kept + 1) file =
+          sym (take-take (kept + 1) (end + 1) (seen three) (omega (arith, before)))
+          ∙ ap (take (kept + 1)) (holds-front (seen two) (1 ∷ []) (seen three) (end + 1) (omega (arith, reaches (seen two) kept end rest-two)) holds)
+          ∙ take-take (kept + 1) (end + 1) (seen two) (omega (arith, before))
+          ∙ same-front file kept end r (seen two) two-same in
+          record {
+            rest = o.rest;
+            killed = o.written ∙ ap (λ (bs : List ℕ). bs ++ bytes) killed-two;
+            stopped = o.synced ∙ same-stopped file kept end r (seen two) two-same;
+            front = λ c now. gate-front c ((third Stopped).now c now) ∙ sym last;
+            size = omega (
+              arith,
+              length-holds (seen two) (1 ∷ []) (seen three) (end + 1) (omega (arith, reaches (seen two) kept end rest-two)) holds,
+              length-holds (seen one) (staged bytes) (seen two) (end + 2) room written,
+              length-staged bytes,
+              reaches (seen two) kept end rest-two,
+            );
+          }

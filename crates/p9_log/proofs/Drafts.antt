@@ -54,11 +54,11 @@ module _ (draft bytes new : List ℕ) (len : ℕ) (d : IsDraft draft len) (small
 -- a draft with a mark behind it
 module _ (draft file : List ℕ) (len : ℕ) (d : IsDraft draft len) (is : file ≡ draft ++ marks) where
   pub marked-has : AlwaysHas (content_in Stopped draft) file
-  marked-has Killed = fresh-killed draft (content_in Stopped draft) file len d.blocks d.size is
-  marked-has Stopped = fresh-stopped draft (content_in Stopped draft) file len d.blocks d.size is
+  marked-has Killed = fresh-killed draft (content_in Stopped draft) file len d.blocks d.size [] is
+  marked-has Stopped = fresh-stopped draft (content_in Stopped draft) file len d.blocks d.size [] is
 
   pub marked-rest : IsAtRest file len (len + 10)
-  marked-rest = fresh-rest draft (content_in Stopped draft) file len d.blocks d.size is
+  marked-rest = fresh-rest draft (content_in Stopped draft) file len d.blocks d.size [] is
 
 module _ {D : Type 0} (seen : D → List ℕ) (moment : D → ℕ) (may_leave : D → Crash → List ℕ → Type 0)
     (left_since : D → Crash → ℕ → List ℕ → Type 0)

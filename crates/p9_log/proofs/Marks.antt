@@ -178,7 +178,7 @@ module _ {D : Type 0} (seen : D → List ℕ) (moment : D → ℕ) (may_leave : 
           let last : seen three ≡ seen start ++ marks =
           marked-is (seen start) (content_in Stopped (seen start)) end size runs (seen three) (subst (λ f. Holds f (end + 1) behind_gate (seen three)) is holds) in
           record {
-            at_rest = fresh-rest (seen start) (content_in Stopped (seen start)) (seen three) end runs size last;
+            at_rest = fresh-rest (seen start) (content_in Stopped (seen start)) (seen three) end runs size [] last;
             content = has last;
             front = λ c now.
                 let from = (third Stopped).now c now in
@@ -188,5 +188,5 @@ module _ {D : Type 0} (seen : D → List ℕ) (moment : D → ℕ) (may_leave : 
           }
         where
           has : seen three ≡ seen start ++ marks → (how : Crash) → content_in how (seen three) ≡ content_in Stopped (seen start)
-          has last Killed = fresh-killed (seen start) (content_in Stopped (seen start)) (seen three) end runs size last
-          has last Stopped = fresh-stopped (seen start) (content_in Stopped (seen start)) (seen three) end runs size last
+          has last Killed = fresh-killed (seen start) (content_in Stopped (seen start)) (seen three) end runs size [] last
+          has last Stopped = fresh-stopped (seen start) (content_in Stopped (seen start)) (seen three) end runs size [] last

@@ -83,7 +83,7 @@ module _ (how : Crash) (file bytes : List ℕ) (end left kept : ℕ) (f : IsFoun
           let parted_now : now ≡ (synced ++ gate ∷ more) ++ [] = here ∙ parted ∙ sym (append-nil (synced ++ gate ∷ more)) in
           let long : end ≡ length synced + 1 + length more = omega (arith, ap length parted, length-append synced (gate ∷ more)) in
           record {
-            split = (is_split gate synced more [] (content_in Stopped file) bytes parts shut refl now kept end parted_now (sym same ∙ at) long (omega arith)).0;
+            split = (is_split gate synced more [] (content_in Stopped file) bytes parts shut refl now kept end parted_now (sym same ∙ at) long).0;
             written = ap (content_in Killed) parted_now ∙ split-killed gate synced more [] (content_in Stopped file) bytes parts shut refl
                 ∙ sym (content-is how file bytes end left (Some kept) f);
             synced = ap (content_in Stopped) parted_now ∙ split-stopped gate synced more [] (content_in Stopped file) bytes parts shut refl;

@@ -1,13 +1,13 @@
 -- Files at rest.
-use Rattle.std.proofs.Common.{◌≡◌, ℕ, ◌+◌, ◌≤◌, ◌<◌, ◌^◌, true, false, eqb}
+use Rattle.std.proofs.Common.{◌≡◌, ℕ, ◌+◌, ◌<◌, ◌^◌, true, false, eqb}
 use Rattle.std.proofs.Common.{List, [], ◌∷◌, ◌++◌, None, length, get_or, take, drop, refl, sym, ap, subst, ◌∙◌}
 use Rattle.std.proofs.Common.{append_assoc, arith, length-append}
-use Rattle.std.proofs.lemmas.List.{append-nil, take_at, drop_at, drop_more}
+use Rattle.std.proofs.lemmas.List.{append-nil, take_at, drop_at, drop-drop, drop_more}
 use Rattle.byteorder.specs.Endian.{little_number}
 use Rattle.p9_log.specs.declared.crash.Crash.{Crash}
 use Rattle.p9_log.specs.declared.crash.Crash.TheVariants.{Killed, Stopped}
 use Rattle.p9_log.specs.Blocks.{number, counts, behind, block_at, content_in}
-use Rattle.p9_log.specs.Rest.{block, Runs, Parts, between, IsSplit}
+use Rattle.p9_log.specs.Rest.{block, Runs, Parts, between, IsAtRest, IsSplit}
 use Rattle.p9_log.proofs.Readings.{length-number, number-reads, block-back, content-step}
 use Rattle.p9_log.proofs.Readings.{content-stop, closed}
 
@@ -107,9 +107,9 @@ module _ (gate : ℕ) (front rest tail synced content : List ℕ)
 
   -- its offsets
   pub is_split : (file : List ℕ) (kept end : ℕ) → file ≡ (front ++ gate ∷ rest) ++ tail
-      → kept ≡ length front → end ≡ length front + 1 + length rest → length tail ≤ 2
+      → kept ≡ length front → end ≡ length front + 1 + length rest
       → IsSplit file kept end × (drop end file ≡ tail)
-  is_split file kept end is kept_is end_is few =
+  is_split file kept end is kept_is end_is =
       let blocks_long : length (front ++ gate ∷ rest) ≡ end = omega (arith, length-append front (gate ∷ rest), end_is) in
       let long : length file ≡ end + length tail = ap length is ∙ omega (arith, blocks_long, length-append (front ++ gate ∷ rest) tail) in
       let parted : file ≡ front ++ (gate ∷ rest ++ tail) = is ∙ append_assoc front (gate ∷ rest) tail in
@@ -128,7 +128,6 @@ module _ (gate : ℕ) (front rest tail synced content : List ℕ)
         record {
           order = omega arith;
           size = omega (arith, long);
-          few = omega (arith, long);
           whole = is ∙ (λ i. (sym taken i ++ sym at i ∷ sym inner i) ++ sym last i);
           gate = ap (λ g. eqb g 1) at ∙ shut_gate;
           tail = ap (block_at Stopped) last ∙ none;
@@ -137,3 +136,11 @@ module _ (gate : ℕ) (front rest tail synced content : List ℕ)
         },
         last,
       )
+
+-- the gates of the next block behind the blocks
+pub at_rest : (file : List ℕ) (kept end : ℕ) (more : List ℕ) → IsSplit file kept end
+    → drop end file ≡ 1 ∷ 0 ∷ more → IsAtRest file kept end
+at_rest file kept end more split e = record {
+  split = split;
+  next = e ∙ ap (λ (bs : List ℕ). 1 ∷ 0 ∷ bs) (sym (ap (drop 2) e) ∙ drop-drop 2 end file);
+}

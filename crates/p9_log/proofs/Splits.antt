@@ -3,7 +3,7 @@ use Rattle.std.proofs.Common.{◌≡◌, inl, inr, ⊎_elim, ℕ, zero, suc, ◌
 use Rattle.std.proofs.Common.{List, [], ◌∷◌, ◌++◌, length, get_or, take, drop, refl, sym, ap, subst}
 use Rattle.std.proofs.Common.{◌∙◌, append_assoc, arith, take-append-drop, length-append, length-drop}
 use Rattle.std.proofs.lemmas.Bool.{eqb-true}
-use Rattle.std.proofs.lemmas.List.{append-nil, take_at, drop_all, length-take-le}
+use Rattle.std.proofs.lemmas.List.{take_at, length-take-le}
 use Rattle.p9_log.specs.declared.crash.Crash.{Crash}
 use Rattle.p9_log.specs.declared.crash.Crash.TheVariants.{Killed, Stopped}
 use Rattle.p9_log.specs.Blocks.{number, content_in}
@@ -11,7 +11,7 @@ use Rattle.p9_log.specs.Device.{After, Holds, IsWritten, Only, Torn}
 use Rattle.p9_log.specs.Log.{IsKept}
 use Rattle.p9_log.specs.Rest.{Begin, Runs, between, IsSplit, IsAtRest}
 use Rattle.p9_log.proofs.Readings.{length-number, closed, shut}
-use Rattle.p9_log.proofs.Rest.{runs-stop, stopped-front, parts-fresh, split-killed, split-stopped, is_split}
+use Rattle.p9_log.proofs.Rest.{runs-stop, stopped-front, parts-fresh, split-killed, split-stopped, is_split, at_rest}
 use Rattle.p9_log.proofs.Writes.{holds-at, killed-at, killed-gate, held-gate, torn-gate, torn-front, as-long}
 
 -- a mark, and the gates of the next block
@@ -27,24 +27,26 @@ abbrev pub Known : ℕ → List ℕ → Crash → (List ℕ → Type 0) → Type
 Known n file Killed outcomes = Only file outcomes
 Known n file Stopped outcomes = Begin n file outcomes
 
--- a mark behind open blocks
+-- a mark behind open blocks, and anything behind it
 module _ (front content file : List ℕ) (end : ℕ) (runs : (how : Crash) → Runs how front content how)
-    (size : length front ≡ end) (is : file ≡ front ++ marks) where
-  grouped : file ≡ (front ++ 0 ∷ 1 ∷ number 0) ++ 1 ∷ 0 ∷ []
+    (size : length front ≡ end) (more : List ℕ) (is : file ≡ front ++ (marks ++ more)) where
+  grouped : file ≡ (front ++ 0 ∷ 1 ∷ number 0) ++ 1 ∷ 0 ∷ more
   grouped =
-      is ∙ ap (λ (bs : List ℕ). front ++ bs) marks-are ∙ sym (append_assoc front (0 ∷ 1 ∷ number 0) (1 ∷ 0 ∷ []))
+      is ∙ ap (λ (bs : List ℕ). front ++ (bs ++ more)) marks-are
+      ∙ ap (λ (bs : List ℕ). front ++ bs) (append_assoc (0 ∷ 1 ∷ number 0) (1 ∷ 0 ∷ []) more)
+      ∙ sym (append_assoc front (0 ∷ 1 ∷ number 0) (1 ∷ 0 ∷ more))
 
   pub fresh-killed : content_in Killed file ≡ content
-  fresh-killed = ap (content_in Killed) grouped ∙ split-killed 0 front (1 ∷ number 0) (1 ∷ 0 ∷ []) content content (parts-fresh front content runs) refl (shut Stopped 1 [])
+  fresh-killed = ap (content_in Killed) grouped ∙ split-killed 0 front (1 ∷ number 0) (1 ∷ 0 ∷ more) content content (parts-fresh front content runs) refl (shut Stopped 1 more)
 
   pub fresh-stopped : content_in Stopped file ≡ content
-  fresh-stopped = ap (content_in Stopped) grouped ∙ split-stopped 0 front (1 ∷ number 0) (1 ∷ 0 ∷ []) content content (parts-fresh front content runs) refl (shut Stopped 1 [])
+  fresh-stopped = ap (content_in Stopped) grouped ∙ split-stopped 0 front (1 ∷ number 0) (1 ∷ 0 ∷ more) content content (parts-fresh front content runs) refl (shut Stopped 1 more)
 
   pub fresh-rest : IsAtRest file end (end + 10)
   fresh-rest =
       let nine : length (number 0) ≡ 8 = length-number 0 in
-      let s = is_split 0 front (1 ∷ number 0) (1 ∷ 0 ∷ []) content content (parts-fresh front content runs) refl (shut Stopped 1 []) file end (end + 10) grouped (sym size) (omega arith) (omega arith) in
-      record { split = s.0; next = s.1 }
+      let s = is_split 0 front (1 ∷ number 0) (1 ∷ 0 ∷ more) content content (parts-fresh front content runs) refl (shut Stopped 1 more) file end (end + 10) grouped (sym size) (omega arith) in
+      at_rest file end (end + 10) more s.0 s.1
 
 module _ (file : List ℕ) (kept end : ℕ) (s : IsSplit file kept end) where
   abbrev front : List ℕ
@@ -104,61 +106,61 @@ module _ (file : List ℕ) (kept end : ℕ) (s : IsSplit file kept end) where
           (0 ∷ take n bytes ++ drop (length (take (suc n) (0 ∷ bytes))) tail) s.parts.written
           (closed 0 _ refl)
 
-  -- the mark over the tail
+  -- the mark over the tail, and what is left of that behind it
+  abbrev pub marked_tail : List ℕ
+  marked_tail = marks ++ drop 12 tail
+
   pub marked : List ℕ
-  marked = front ++ gate ∷ (rest ++ marks)
+  marked = front ++ gate ∷ (rest ++ marked_tail)
 
   pub marked-is : (new : List ℕ) → Holds file end marks new → new ≡ marked
   unfolding marked
   marked-is new holds =
-      let few = s.few in
       holds-at (front ++ gate ∷ rest) tail marks new end blocks-long (subst (λ f. Holds f end marks new) s.whole holds)
-      ∙ ap (λ (bs : List ℕ). (front ++ gate ∷ rest) ++ (marks ++ bs)) (drop_all 12 tail (omega (arith, length-drop end file)))
-      ∙ ap (λ (bs : List ℕ). (front ++ gate ∷ rest) ++ bs) (append-nil marks)
-      ∙ append_assoc front (gate ∷ rest) marks
+      ∙ append_assoc front (gate ∷ rest) marked_tail
 
   opened : List ℕ
-  opened = (front ++ 1 ∷ rest) ++ marks
+  opened = (front ++ 1 ∷ rest) ++ marked_tail
 
   opened-long : length (front ++ 1 ∷ rest) ≡ end
   opened-long = omega (arith, blocks-long, length-append front (1 ∷ rest), length-append front (gate ∷ rest))
 
   -- then the gate
-  pub opened-is : (new : List ℕ) → Holds marked kept (1 ∷ []) new → new ≡ (front ++ 1 ∷ rest) ++ marks
+  pub opened-is : (new : List ℕ) → Holds marked kept (1 ∷ []) new → new ≡ (front ++ 1 ∷ rest) ++ marked_tail
   unfolding marked
   opened-is new holds =
-      held-gate front (rest ++ marks) new gate 1 kept front-long holds ∙ sym (append_assoc front (1 ∷ rest) marks)
+      held-gate front (rest ++ marked_tail) new gate 1 kept front-long holds ∙ sym (append_assoc front (1 ∷ rest) marked_tail)
 
   pub opened-rest : (new : List ℕ) → Holds marked kept (1 ∷ []) new
       → IsAtRest new end (end + 10) × (content_in Killed new ≡ content_in Killed file) × (content_in Stopped new ≡ content_in Killed file)
   opened-rest new holds = (
-    fresh-rest (front ++ 1 ∷ rest) (content_in Killed file) new end s.parts.opened opened-long (opened-is new holds),
-    fresh-killed (front ++ 1 ∷ rest) (content_in Killed file) new end s.parts.opened opened-long (opened-is new holds),
-    fresh-stopped (front ++ 1 ∷ rest) (content_in Killed file) new end s.parts.opened opened-long (opened-is new holds),
+    fresh-rest (front ++ 1 ∷ rest) (content_in Killed file) new end s.parts.opened opened-long (drop 12 tail) (opened-is new holds),
+    fresh-killed (front ++ 1 ∷ rest) (content_in Killed file) new end s.parts.opened opened-long (drop 12 tail) (opened-is new holds),
+    fresh-stopped (front ++ 1 ∷ rest) (content_in Killed file) new end s.parts.opened opened-long (drop 12 tail) (opened-is new holds),
   )
 
-  gate-any : (any : ℕ) (c : List ℕ) → c ≡ front ++ any ∷ (rest ++ marks) → IsKept Stopped file c
+  gate-any : (any : ℕ) (c : List ℕ) → c ≡ front ++ any ∷ (rest ++ marked_tail) → IsKept Stopped file c
   gate-any any c is = go (eqb any 1) refl
     where
       go : (b : Bool) → eqb any 1 ≡ b → IsKept Stopped file c
-      go false e = inl (ap (content_in Stopped) is ∙ stopped-front front (content_in Stopped file) (rest ++ marks) any s.parts.kept e)
+      go false e = inl (ap (content_in Stopped) is ∙ stopped-front front (content_in Stopped file) (rest ++ marked_tail) any s.parts.kept e)
       go true e =
-          let one : c ≡ (front ++ 1 ∷ rest) ++ marks = is ∙ ap (λ (g : ℕ). front ++ g ∷ (rest ++ marks)) (eqb-true any 1 e) ∙ sym (append_assoc front (1 ∷ rest) marks) in
-          inr (fresh-stopped (front ++ 1 ∷ rest) (content_in Killed file) c end s.parts.opened opened-long one)
+          let one : c ≡ (front ++ 1 ∷ rest) ++ marked_tail = is ∙ ap (λ (g : ℕ). front ++ g ∷ (rest ++ marked_tail)) (eqb-true any 1 e) ∙ sym (append_assoc front (1 ∷ rest) marked_tail) in
+          inr (fresh-stopped (front ++ 1 ∷ rest) (content_in Killed file) c end s.parts.opened opened-long (drop 12 tail) one)
 
   pub gate-torn : (c : List ℕ) → Torn kept 1 marked c → IsKept Stopped file c
   unfolding marked
   gate-torn c torn =
-      let any = torn-gate front (rest ++ marks) c gate kept front-long torn in gate-any any.0 c any.1
+      let any = torn-gate front (rest ++ marked_tail) c gate kept front-long torn in gate-any any.0 c any.1
 
   pub gate-killed : (c : List ℕ) → IsWritten Killed kept (1 ∷ []) marked c → content_in Killed c ≡ content_in Killed file
   unfolding marked
   gate-killed c written =
       ⊎_elim
-      (λ e. ap (content_in Killed) (e ∙ sym (append_assoc front (gate ∷ rest) marks))
-      ∙ runs-stop Killed Stopped (front ++ gate ∷ rest) (content_in Killed file) marks s.parts.written (closed 0 (drop 1 marks) refl))
-      (λ e. fresh-killed (front ++ 1 ∷ rest) (content_in Killed file) c end s.parts.opened opened-long (e ∙ sym (append_assoc front (1 ∷ rest) marks)))
-      (killed-gate front (rest ++ marks) c gate 1 kept front-long written)
+      (λ e. ap (content_in Killed) (e ∙ sym (append_assoc front (gate ∷ rest) marked_tail))
+      ∙ runs-stop Killed Stopped (front ++ gate ∷ rest) (content_in Killed file) marked_tail s.parts.written (closed 0 (drop 1 marked_tail) refl))
+      (λ e. fresh-killed (front ++ 1 ∷ rest) (content_in Killed file) c end s.parts.opened opened-long (drop 12 tail) (e ∙ sym (append_assoc front (1 ∷ rest) marked_tail)))
+      (killed-gate front (rest ++ marked_tail) c gate 1 kept front-long written)
 
   -- for each kind of crash: while the mark is written, and while the gate is opened
   pub mark-crash : (how : Crash) (outcomes : List ℕ → Type 0) → Known (kept + 1) file how outcomes

@@ -24,13 +24,13 @@ length-block buffer end from room =
       length-number (length (held buffer end)),
     )
 
--- what is written behind the sync gate of a block
+-- what is written behind the gates of a block
 pub staged-is : (old new : List ℕ) (end : ℕ) → 10 ≤ end → end ≤ length old
     → take (end + 2) new ≡ block 1 (held old end) ++ 1 ∷ 0 ∷ []
-    → take (end + 2 - 1) (drop 1 new) ≡ staged (held old end)
+    → take (end + 2 - 2) (drop 2 new) ≡ staged (held old end)
 staged-is old new end from room is =
-    let on : 1 + (end + 2 - 1) ≡ end + 2 = omega arith in
-    sym (drop-take 1 (end + 2 - 1) new) ∙ ap (λ n. drop 1 (take n new)) on ∙ ap (drop 1) is
+    let on : 2 + (end + 2 - 2) ≡ end + 2 = omega arith in
+    sym (drop-take 2 (end + 2 - 2) new) ∙ ap (λ n. drop 2 (take n new)) on ∙ ap (drop 2) is
 
 -- and what is added to a draft
 pub drafted-is : (old new : List ℕ) (end : ℕ) → 10 ≤ end → end ≤ length old

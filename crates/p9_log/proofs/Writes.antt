@@ -1,11 +1,12 @@
 -- What writes make of a file.
 use Rattle.std.proofs.Common.{◌≡◌, ◌⊎◌, inl, inr, ℕ, zero, suc, ◌+◌, ◌≤◌, min, List, [], ◌∷◌, ◌++◌}
 use Rattle.std.proofs.Common.{length, get_or, take, drop, sym, ap, ◌∙◌, append_assoc, arith, subst}
-use Rattle.std.proofs.Common.{take-append-drop, length-append}
+use Rattle.std.proofs.Common.{take-append-drop, length-append, length-drop, max}
 use Rattle.std.proofs.Math.Seq.{drop-append-add}
-use Rattle.std.proofs.lemmas.List.{take_at, drop_more, take-take, length-take}
-use Rattle.p9_log.specs.declared.crash.Crash.TheVariants.{Killed}
-use Rattle.p9_log.specs.Device.{After, Holds, IsSame, IsWritten, Torn}
+use Rattle.std.proofs.lemmas.List.{take_at, take_min, drop_more, take-take, length-take, length-take-le}
+use Rattle.p9_log.specs.declared.crash.Crash.{Crash}
+use Rattle.p9_log.specs.declared.crash.Crash.TheVariants.{Killed, Stopped}
+use Rattle.p9_log.specs.Device.{After, Holds, IsSame, IsSameTo, IsWritten, Torn}
 
 -- a write at the end of a front
 pub holds-at : (pre post bytes new : List ℕ) (at : ℕ) → length pre ≡ at → Holds (pre ++ post) at bytes new
@@ -66,3 +67,41 @@ as-long k file c le same = omega (arith, length-take k c, length-take k file, ap
 pub after-same : (P outcomes : List ℕ → Type 0) → ((c : List ℕ) → outcomes c → P c) → (c : List ℕ)
     → After IsSame outcomes c → P c
 after-same P outcomes here c after = subst P (sym after.2) (here after.0 after.1)
+
+-- a step that keeps the front of a file, as far as it was there
+pub same-to : (k n : ℕ) (old new : List ℕ) → k ≤ n → k ≤ length old → IsSameTo n old new → take k new ≡ take k old
+same-to k n old new le there same =
+    sym (take-take k (min n (length old)) new (omega arith)) ∙ ap (take k) same ∙ take-take k n old le
+
+-- nothing is written
+pub same-none : (n : ℕ) (file : List ℕ) → IsSameTo n file file
+same-none n file = take_min n file
+
+-- something is written from an offset on, or a front or any bytes of it
+pub written-same : (how : Crash) (at : ℕ) (bytes old new : List ℕ) → IsWritten how at bytes old new → IsSameTo at old new
+written-same Killed at bytes old new written =
+    let front : List ℕ = take written.0 bytes in
+    let rest : List ℕ = drop (at + length front) old in
+    ap (take (min at (length old))) (written.1 ∙ append_assoc (take at old) front rest)
+    ∙ take_at (take at old) (front ++ rest) (min at (length old)) (length-take at old)
+written-same Stopped at bytes old new torn = torn.before
+
+-- what is in front of a write
+pub holds-front : (old bytes new : List ℕ) (at : ℕ) → at ≤ length old → Holds old at bytes new → take at new ≡ take at old
+holds-front old bytes new at le holds =
+    let rest : List ℕ = drop (at + length bytes) old in
+    ap (take at) (holds ∙ append_assoc (take at old) bytes rest)
+    ∙ take_at (take at old) (bytes ++ rest) at (length-take-le at old le)
+
+-- how long a file is after a write
+pub length-holds : (old bytes new : List ℕ) (at : ℕ) → at ≤ length old → Holds old at bytes new
+    → length new ≡ max (length old) (at + length bytes)
+length-holds old bytes new at le holds =
+    omega (
+      arith,
+      ap length holds,
+      length-append (take at old ++ bytes) (drop (at + length bytes) old),
+      length-append (take at old) bytes,
+      length-take-le at old le,
+      length-drop (at + length bytes) old,
+    )

@@ -43,6 +43,10 @@ IsPut draft old new = (new ≡ old) ⊎ (new ≡ draft)
 abbrev pub IsSame : List ℕ → List ℕ → Type 0
 IsSame old new = new ≡ old
 
+-- the first n bytes are as they were, where so many were there
+abbrev pub IsSameTo : (n : ℕ) → List ℕ → List ℕ → Type 0
+IsSameTo n old new = take (min n (length old)) new ≡ take n old
+
 -- a crash leaves this and nothing else
 abbrev pub Only : List ℕ → (List ℕ → Type 0) → Type 0
 Only file outcomes = (c : List ℕ) → outcomes c → c ≡ file

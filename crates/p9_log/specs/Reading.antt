@@ -1,6 +1,7 @@
 -- How far a file has been read, block by block.
 use Rattle.std.specs.Prelude.{◌≡◌, ◌⊎◌, ℕ, ◌+◌, ◌≤◌, ◌==◌, false, List, ◌∷◌, ◌++◌, Option, Some, None}
-use Rattle.std.specs.Prelude.{length, take}
+use Rattle.std.specs.Prelude.{◌-◌, length, reverse, take}
+use Rattle.std.specs.List.{prefix_len}
 use Rattle.p9_log.specs.declared.crash.Crash.{Crash}
 use Rattle.p9_log.specs.declared.crash.Crash.TheVariants.{Killed, Stopped}
 use Rattle.p9_log.specs.Blocks.{block_at, content_in}
@@ -27,13 +28,17 @@ pub record IsReadTo (how mode : Crash) (file rest bytes : List ℕ) (kept : Opti
   pub content : content_in how file ≡ bytes ++ content_in mode rest
   pub blocks : HasBlocks how mode file front bytes kept
 
--- all its blocks were read, and end there; so many bytes are left
-pub record IsFound (how : Crash) (file bytes : List ℕ) (end left_out : ℕ) (kept : Option ℕ) : Type 0 where
+-- how many bytes there are up to the last that isn't 0
+abbrev pub len_without_zeros : List ℕ → ℕ
+len_without_zeros bytes = length bytes - prefix_len (λ byte. byte == 0) (reverse bytes)
+
+-- all its blocks were read, and end there; so many bytes are behind them
+pub record IsFound (how : Crash) (file bytes : List ℕ) (end behind : ℕ) (kept : Option ℕ) : Type 0 where
   pub mode : Crash
   pub rest : List ℕ
   pub read : IsReadTo how mode file rest bytes kept
-  pub size : length rest ≡ left_out
-  pub ends : end + left_out ≡ length file
+  pub size : length rest ≡ behind
+  pub ends : end + behind ≡ length file
   pub none : block_at mode rest ≡ None
 
 -- the file is cut to so many bytes: these are there, and any others behind them

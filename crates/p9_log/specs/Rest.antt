@@ -1,5 +1,5 @@
 -- A file at rest: blocks, with a closed sync gate before what was written since the last sync, and
--- behind them an open sync gate and a closed write gate.
+-- behind them an open sync gate and a closed write gate. What is behind these counts for nothing.
 use Rattle.std.specs.Prelude.{◌≡◌, ℕ, ◌+◌, ◌-◌, ◌<◌, ◌≤◌, ◌==◌, false, List, [], ◌∷◌, ◌++◌, None}
 use Rattle.std.specs.Prelude.{length, get_or, take, drop}
 use Rattle.p9_log.specs.declared.crash.Crash.{Crash}
@@ -14,9 +14,9 @@ block synced bytes = synced ∷ 1 ∷ number (length bytes) ++ bytes
 abbrev pub held : List ℕ → (end : ℕ) → List ℕ
 held buffer end = take (end - 10) (drop 10 buffer)
 
--- what a block is written as behind its sync gate, and the gates of the next
+-- what a block is written as behind its gates, and the gates of the next
 abbrev pub staged : List ℕ → List ℕ
-staged bytes = 1 ∷ number (length bytes) ++ bytes ++ 1 ∷ 0 ∷ []
+staged bytes = number (length bytes) ++ bytes ++ 1 ∷ 0 ∷ []
 
 -- a block without bytes, whose sync gate is closed, and the gates of the next
 abbrev pub mark : List ℕ
@@ -38,22 +38,21 @@ pub record Parts (gate : ℕ) (front rest synced content : List ℕ) : Type 0 wh
 abbrev pub between : (kept end : ℕ) → List ℕ → List ℕ
 between kept end file = drop (kept + 1) (take end file)
 
--- A file by two offsets: blocks up to the second, with a closed sync gate at the first, and few bytes
--- behind them that are no block.
+-- A file by two offsets: blocks up to the second, with a closed sync gate at the first, and behind
+-- them what is no block.
 pub record IsSplit (file : List ℕ) (kept end : ℕ) : Type 0 where
   pub order : kept < end
   pub size : end ≤ length file
-  pub few : length file ≤ end + 2
   pub whole : file ≡ (take kept file ++ get_or file kept 0 ∷ between kept end file) ++ drop end file
   pub gate : (get_or file kept 0 == 1) ≡ false
   pub tail : block_at Stopped (drop end file) ≡ None
   pub parts : Parts (get_or file kept 0) (take kept file) (between kept end file)
       (content_in Stopped file) (content_in Killed file)
 
--- a file at rest: the gates of the next block are behind the blocks
+-- a file at rest: the gates of the next block are behind the blocks, and anything behind these
 pub record IsAtRest (file : List ℕ) (kept end : ℕ) : Type 0 where
   pub split : IsSplit file kept end
-  pub next : drop end file ≡ 1 ∷ 0 ∷ []
+  pub next : drop end file ≡ 1 ∷ 0 ∷ drop (end + 2) file
 
 -- each outcome of a crash begins as the file does, for so many bytes
 abbrev pub Begin : ℕ → List ℕ → (List ℕ → Type 0) → Type 0

@@ -1,6 +1,6 @@
 //! What was written since the last sync is brought to the disk.
 
-ghost use Rattle.std.specs.Prelude.{◌≡◌, ◌+◌, OnOk};
+ghost use Rattle.std.specs.Prelude.{◌≡◌, ◌+◌, OnOk, length, max};
 ghost use Rattle.p9_log.specs.declared.crash.Crash.{Crash};
 ghost use Rattle.p9_log.specs.declared.crash.Crash.TheVariants.{Killed, Stopped};
 ghost use Rattle.p9_log.specs.Blocks.{content_in};
@@ -17,6 +17,8 @@ pub(crate) fn keep<D: Device>(device: &mut D, kept: usize, end: usize) -> Result
     requires split { IsSplit (D.seen device.old) kept end }
     requires front { Begin (kept + 1) (D.seen device.old) (D.may_leave device.old Stopped) }
     ensures at_rest { OnOk result (IsAtRest (D.seen device.new) end (end + 10)) }
+    ensures len { OnOk result (length (D.seen device.new)
+        ≡ max (length (D.seen device.old)) (end + 12)) }
     ensures written { OnOk result (content_in Killed (D.seen device.new)
         ≡ content_in Killed (D.seen device.old)) }
     ensures synced { OnOk result (content_in Stopped (D.seen device.new)

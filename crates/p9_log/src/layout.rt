@@ -15,8 +15,15 @@ pub(crate) const MARK: [u8; 12] = [0, 1, 0, 0, 0, 0, 0, 0, 0, 0, 1, 0];
 // The gates behind a block: behind what isn't synced the sync gate may be open.
 pub(crate) const NEXT: [u8; TAIL] = [1, 0];
 
-// The gates of a block. Of one that is added to a log only the second is written.
+// The gates of a block. Of one that is added to a log only the second is written, and it is written last.
 pub(crate) const OPEN: [u8; 2] = [1, 1];
+
+// From so many bytes on a block makes the file longer by itself. Below, the file is made longer ahead of it, by up to twice as
+// many zeros: a system keeps large pieces of a file at less cost than many small ones.
+pub(crate) const AHEAD: usize = 1 << 16;
+
+// What is written ahead of the blocks of a log.
+pub(crate) const ZEROS: [u8; 2 * AHEAD] = [0; 2 * AHEAD];
 
 // The most bytes of a block, and the greatest offset at which the blocks of a log end, where one is
 // added or the log is opened.

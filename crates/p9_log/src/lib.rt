@@ -16,6 +16,7 @@ mod memory;
 mod opening;
 mod reading;
 mod repair;
+mod room;
 mod staging;
 
 pub use crash::Crash;

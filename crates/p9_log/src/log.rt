@@ -1,6 +1,6 @@
 //! A log in a file.
 
-ghost use Rattle.std.specs.Prelude.{◌≡◌, ◌≤◌, ◌+◌, ◌^◌, false, if◌then◌else◌, IsTrue};
+ghost use Rattle.std.specs.Prelude.{◌≡◌, ◌≤◌, ◌+◌, ◌^◌, false, if◌then◌else◌, IsTrue, length};
 ghost use Rattle.p9_log.specs.declared.crash.Crash.TheVariants.{Killed, Stopped};
 ghost use Rattle.p9_log.specs.Blocks.{content_in};
 ghost use Rattle.p9_log.specs.Draft.{IsDraft};
@@ -9,7 +9,8 @@ ghost use Rattle.p9_log.specs.Rest.{Begin, IsAtRest};
 use crate::device::{Device, DeviceError};
 use crate::error::LogError;
 use crate::keeping::keep;
-use crate::layout::{HEAD, MARK, MOST, TAIL};
+use crate::layout::{HEAD, MARK, MOST, OPEN, TAIL};
+use crate::room::make_room;
 use crate::staging::stage;
 
 /// A log in a file.
@@ -27,6 +28,8 @@ pub struct Log<D: Device> {
     kept: usize,
     // where the gates of the next block are
     end: usize,
+    // how many bytes the file has
+    size: usize,
     // whether there may be something to sync
     pending: bool,
     // whether no call of the device for the file has failed
@@ -36,6 +39,7 @@ pub struct Log<D: Device> {
     // how many bytes it has
     drafted: usize,
     ghost at_rest: { IsTrue usable → IsAtRest (D.seen device) kept end },
+    ghost whole: { IsTrue usable → size ≡ length (D.seen device) },
     ghost durable: { IsTrue usable → Begin (kept + 1) (D.seen device) (D.may_leave device Stopped) },
     ghost synced: { IsTrue usable → pending ≡ false
         → content_in Killed (D.seen device) ≡ content_in Stopped (D.seen device) },
@@ -45,7 +49,7 @@ pub struct Log<D: Device> {
 }
 
 impl<D: Device> Log<D> {
-    ghost use Rattle.std.specs.Prelude.{◌++◌, ◌<◌, [], length, IsErrOf, List, OnErr, OnOk, ℕ};
+    ghost use Rattle.std.specs.Prelude.{◌++◌, ◌<◌, [], IsErrOf, List, OnErr, OnOk, ℕ};
     ghost use Rattle.p9_log.specs.declared.crash.Crash.{Crash};
     ghost use Rattle.p9_log.specs.Device.{LeavesOnly, Only};
     ghost use Rattle.p9_log.specs.Log.{AlwaysHas, IfRefused, IsAppended, IsKept, LeaveAsSeen, NoMore, Nothing};
@@ -56,6 +60,7 @@ impl<D: Device> Log<D> {
         requires rest { IsAtRest (D.seen device) kept (kept + 10) }
         requires front { Begin (kept + 1) (D.seen device) (D.may_leave device Stopped) }
         requires synced { content_in Killed (D.seen device) ≡ content_in Stopped (D.seen device) }
+        requires size { length (D.seen device) ≡ kept + 12 }
         requires near { kept ≤ 2 ^ 60 }
         ensures device { result.device ≡ device }
         ensures kept { result.kept ≡ kept }
@@ -66,6 +71,7 @@ impl<D: Device> Log<D> {
             device,
             kept,
             end: kept + HEAD,
+            size: kept + HEAD + TAIL,
             pending: false,
             usable: true,
             drafting: false,
@@ -87,10 +93,11 @@ impl<D: Device> Log<D> {
         self.usable
     }
 
-    /// Where the next block goes: how many bytes of the file count.
+    /// Where the next block goes: how many bytes of the file count. Its gates are behind them, and zeros
+    /// may be behind these.
     pub fn len(&self) -> usize
         ensures end { result ≡ self.now.end }
-        ensures size { IsTrue self.now.usable → result + 2 ≡ length (D.seen self.now.device) }
+        ensures size { IsTrue self.now.usable → result + 2 ≤ length (D.seen self.now.device) }
     {
         self.end
     }
@@ -106,7 +113,9 @@ impl<D: Device> Log<D> {
     /// A machine that stops leaves what was synced before.
     ///
     /// The bytes are in a buffer, from [`HEAD`] to `end`. The block is made around them, in the room
-    /// before and behind them.
+    /// before and behind them. Its write gate is opened once all else of it is written, so that what was
+    /// behind the gates before it doesn't count. Where the file is too short for the block, it is made
+    /// longer first, by zeros.
     ///
     /// The errors are a log that would be longer than 2^60 bytes or has failed before, which change
     /// nothing, and a failure of the device.
@@ -145,8 +154,13 @@ impl<D: Device> Log<D> {
         stage(buffer, end);
         self.usable = false;
         self.drafting = false;
-        self.device.write_at(self.end + 1, &buffer[1..end + TAIL])?;
+        let wanted = self.end + end + TAIL;
+        let size = make_room(&mut self.device, self.size, wanted)?;
+        self.device
+            .write_at(self.end + TAIL, &buffer[TAIL..end + TAIL])?;
+        self.device.write_at(self.end + 1, &OPEN[1..])?;
         self.end += end;
+        self.size = size.max(wanted);
         self.pending = true;
         self.usable = true;
         Ok(())
@@ -189,6 +203,7 @@ impl<D: Device> Log<D> {
         keep(&mut self.device, self.kept, self.end)?;
         self.kept = self.end;
         self.end += HEAD;
+        self.size = self.size.max(self.end + TAIL);
         self.pending = false;
         self.usable = true;
         Ok(())
@@ -310,6 +325,7 @@ impl<D: Device> Log<D> {
         self.device.put_draft()?;
         self.kept = self.drafted;
         self.end = self.drafted + HEAD;
+        self.size = self.end + TAIL;
         self.pending = false;
         self.usable = true;
         Ok(())

@@ -1,12 +1,13 @@
 //! A log is opened: in a file that a crash may have left, or as an empty one.
 
-ghost use Rattle.std.specs.Prelude.{◌≡◌, ◌≤◌, ◌<◌, ◌+◌, ◌^◌, [], IfErr, IfOk, IsErrOf, IsTrue, OnOk, length};
+ghost use Rattle.std.specs.Prelude.{◌≡◌, ◌≤◌, ◌<◌, ◌+◌, ◌^◌, [], drop, IfErr, IfOk, IsErrOf, IsTrue, OnOk, length};
 ghost use Rattle.p9_log.specs.declared.crash.Crash.{Crash};
 ghost use Rattle.p9_log.specs.declared.crash.Crash.TheVariants.{Killed, Stopped};
 ghost use Rattle.p9_log.specs.declared.device.DeviceError.TheVariants.{Failed};
 ghost use Rattle.p9_log.specs.Blocks.{content_in};
 ghost use Rattle.p9_log.specs.Device.{HasCause, LeavesOnly};
 ghost use Rattle.p9_log.specs.Log.{IsCreated, IsRecovered, LeaveAsSeen};
+ghost use Rattle.p9_log.specs.Reading.{len_without_zeros};
 ghost use Rattle.p9_log.specs.Rest.{Begin, IsAtRest};
 
 use crate::crash::Crash;
@@ -24,8 +25,9 @@ pub struct Recovered<D: Device, A: Allocator> {
     pub log: Log<D>,
     /// All that was added to the log, but for what was lost.
     pub bytes: Vec<u8, A>,
-    /// How many bytes of the file were behind the last block that counts. Without a crash these are
-    /// at most the 12 of a mark and of the gates of the next block.
+    /// How many bytes of the file were behind the last block that counts, up to the last that isn't 0:
+    /// zeros are written ahead of the blocks. Without a crash these are at most the 12 of a mark and of
+    /// the gates of the next block.
     pub left_out: usize,
 }
 
@@ -45,7 +47,8 @@ pub fn recover<D: Device, A: Allocator + Copy>(
     ensures usable { IfOk result (λ r. IsTrue r.log.usable) }
     ensures outcomes { IfOk result (λ r. LeaveAsSeen (D.seen r.log.device)
         (D.may_leave r.log.device)) }
-    ensures left_out { IfOk result (λ r. r.log.kept + r.left_out ≡ length (D.seen device)) }
+    ensures left_out { IfOk result (λ r.
+        r.left_out ≡ len_without_zeros (drop r.log.kept (D.seen device))) }
     // A crash at any moment leaves what it might have left before, or a file that is recovered as
     // the same.
     ensures any_moment { IfOk result (λ r. (kind : Crash) → LeavesOnly D.moment D.left_since kind
@@ -83,7 +86,9 @@ fn reopen<D: Device, A: Allocator + Copy>(
     ensures front { IfOk result (λ r. Begin (r.end + 1) (D.seen device.new)
         (D.may_leave device.new Stopped)) }
     ensures near { IfOk result (λ r. r.end ≤ 2 ^ 60) }
-    ensures left_out { IfOk result (λ r. r.end + r.left_out ≡ length (D.seen device.old)) }
+    ensures len { IfOk result (λ r. length (D.seen device.new) ≡ r.end + 12) }
+    ensures left_out { IfOk result (λ r.
+        r.left_out ≡ len_without_zeros (drop r.end (D.seen device.old))) }
     ensures any_moment { (kind : Crash) → LeavesOnly D.moment D.left_since kind
         (IsRecovered how kind (D.seen device.old)) device.old device.new }
     ensures failed { IsErrOf result (LogError.Device DeviceError.Failed)
@@ -123,6 +128,7 @@ pub fn create<D: Device>(device: D) -> Result<Log<D>, (DeviceError, D)>
 /// Cuts all of a file, and writes a mark.
 fn empty<D: Device>(device: &mut D) -> Result<(), DeviceError>
     ensures at_rest { OnOk result (IsAtRest (D.seen device.new) 0 10) }
+    ensures len { OnOk result (length (D.seen device.new) ≡ 12) }
     ensures content { OnOk result ((next : Crash) → content_in next (D.seen device.new) ≡ []) }
     ensures front { OnOk result (Begin 1 (D.seen device.new) (D.may_leave device.new Stopped)) }
     ensures any_moment { (kind : Crash) → LeavesOnly D.moment D.left_since kind

@@ -1,8 +1,8 @@
 //! The blocks of a file are read.
 
-ghost use Rattle.std.specs.Prelude.{◌≡◌, IfOk, length};
+ghost use Rattle.std.specs.Prelude.{◌≡◌, drop, IfOk, length};
 ghost use Rattle.p9_log.specs.Blocks.{Gives, behind, block_at, bytes_at, counts, sized_at};
-ghost use Rattle.p9_log.specs.Reading.{IsFound, closed_at};
+ghost use Rattle.p9_log.specs.Reading.{IsFound, closed_at, len_without_zeros};
 
 use crate::crash::Crash;
 use byteorder::{ByteOrder, LittleEndian};
@@ -15,6 +15,8 @@ pub(crate) struct Found<A: Allocator> {
     /// Where the blocks end.
     pub(crate) end: usize,
     /// How many bytes are behind them.
+    pub(crate) behind: usize,
+    /// How many of these there are up to the last that isn't 0.
     pub(crate) left_out: usize,
     /// Where a closed sync gate is before some of them.
     pub(crate) kept: Option<usize>,
@@ -26,8 +28,10 @@ pub(crate) fn read_blocks<A: Allocator>(
     file: &[u8],
     how: Crash,
 ) -> Result<Found<A>, AllocError>
-    ensures { IfOk result (λ found. IsFound how file.now found.bytes.items found.end
-        found.left_out found.kept) }
+    ensures found { IfOk result (λ found. IsFound how file.now found.bytes.items found.end
+        found.behind found.kept) }
+    ensures left_out { IfOk result (λ found.
+        found.left_out ≡ len_without_zeros (drop found.end file.now)) }
 {
     let mut bytes = Vec::new(alloc);
     let mut mode = how;
@@ -42,9 +46,18 @@ pub(crate) fn read_blocks<A: Allocator>(
     Ok(Found {
         bytes,
         end: file.len() - rest.len(),
-        left_out: rest.len(),
+        behind: rest.len(),
+        left_out: len_without_zeros(rest),
         kept,
     })
+}
+
+/// How many bytes there are up to the last that isn't 0.
+fn len_without_zeros(bytes: &[u8]) -> usize
+    ensures { result ≡ len_without_zeros bytes.now }
+{
+    let zeros = bytes.iter().rev().take_while(|byte| **byte == 0).count();
+    bytes.len() - zeros
 }
 
 fn closed_gate(mode: Crash, after: Crash, at: usize, kept: Option<usize>) -> Option<usize>

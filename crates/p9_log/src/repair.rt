@@ -32,8 +32,8 @@ pub(crate) fn cut_to<D: Device>(device: &mut D, len: usize) -> Result<(), Device
 
 /// Cuts a file behind its blocks. The gates and the size of a block that doesn't count stay until
 /// what is behind them is gone from the disk. Else they might be torn open before it.
-fn cut_behind<D: Device>(device: &mut D, end: usize, left_out: usize) -> Result<(), DeviceError>
-    requires ends { end + left_out ≡ length (D.seen device.old) }
+fn cut_behind<D: Device>(device: &mut D, end: usize, behind: usize) -> Result<(), DeviceError>
+    requires ends { end + behind ≡ length (D.seen device.old) }
     requires near { end ≤ 2 ^ 60 }
     ensures seen { OnOk result (D.seen device.new ≡ take end (D.seen device.old)) }
     ensures durable { OnOk result (Only (D.seen device.new) (D.may_leave device.new Stopped)) }
@@ -42,7 +42,7 @@ fn cut_behind<D: Device>(device: &mut D, end: usize, left_out: usize) -> Result<
     ensures cause { HasCause (D.faults device.old) (D.faults device.new) result }
 {
     device.sync()?;
-    cut_to(device, end + left_out.min(HEAD))?;
+    cut_to(device, end + behind.min(HEAD))?;
     cut_to(device, end)
 }
 
@@ -55,6 +55,7 @@ pub(crate) fn mark_end<D: Device>(device: &mut D, end: usize) -> Result<(), Devi
         (content_in Stopped (D.seen device.old)) how }
     requires durable { Only (D.seen device.old) (D.may_leave device.old Stopped) }
     ensures at_rest { OnOk result (IsAtRest (D.seen device.new) end (end + 10)) }
+    ensures len { OnOk result (length (D.seen device.new) ≡ end + 12) }
     ensures content { OnOk result ((how : Crash) → content_in how (D.seen device.new)
         ≡ content_in Stopped (D.seen device.old)) }
     ensures front { OnOk result (Begin (end + 1) (D.seen device.new)
@@ -75,10 +76,11 @@ pub(crate) fn repair<D: Device, A: Allocator>(
     found: &Found<A>,
 ) -> Result<(), DeviceError>
     requires found { IsFound how (D.seen device.old) found.now.bytes.items found.now.end
-        found.now.left_out found.now.kept }
+        found.now.behind found.now.kept }
     requires near { found.now.end ≤ 2 ^ 60 }
     ensures at_rest { OnOk result (IsAtRest (D.seen device.new) found.now.end
         (found.now.end + 10)) }
+    ensures len { OnOk result (length (D.seen device.new) ≡ found.now.end + 12) }
     ensures content { OnOk result ((next : Crash) → content_in next (D.seen device.new)
         ≡ content_in how (D.seen device.old)) }
     ensures front { OnOk result (Begin (found.now.end + 1) (D.seen device.new)
@@ -87,7 +89,7 @@ pub(crate) fn repair<D: Device, A: Allocator>(
         (IsRecovered how kind (D.seen device.old)) device.old device.new }
     ensures cause { HasCause (D.faults device.old) (D.faults device.new) result }
 {
-    cut_behind(device, found.end, found.left_out)?;
+    cut_behind(device, found.end, found.behind)?;
     match found.kept {
         Some(kept) => keep(device, kept, found.end),
         None => mark_end(device, found.end),

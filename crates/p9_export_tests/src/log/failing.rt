@@ -117,10 +117,10 @@ fn judged<D: InMemory>(alloc: Global, device: D, trial: Trial, end: End) -> Opti
 }
 
 /// Each call of the device fails, with each number of bytes of a write that is cut short. A log is made and
-/// added to in 13 calls, and a draft is put in 14.
+/// added to in 17 calls, and a draft is put in 14.
 pub(crate) fn fail_each_call<D: InMemory>(rt: &impl Abort, alloc: Global, trial: Trial) {
     let needed = match trial {
-        Trial::Runs => 13,
+        Trial::Runs => 17,
         Trial::Draft => 14,
     };
     for calls in 0..=needed {

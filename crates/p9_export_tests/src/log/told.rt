@@ -2,18 +2,19 @@
 
 use crate::log::logs::{InMemory, does, found_in, recovers};
 use crate::log::memory::{Work, in_memory};
-use p9_log::{Crash, Log, Recovered};
+use p9_log::{Crash, Recovered};
 use p9_testing::bytes_of;
 use std::alloc::Global;
 use std::process::Abort;
 
 // A crash with the bytes of the file that it left, and behind that a line each for what is done with the
-// log, for what is recovered then, where the process is killed and where the machine stops, and for the
-// bytes of the file.
+// log, for what is recovered then, where the process is killed and where the machine stops, for the bytes
+// of the file, and for how many were left out of the one that the crash left.
 //
 // A block has a sync gate and a write gate, which are open where they are 01, and its size. A mark is a
-// block without bytes, with its sync gate closed. At the end are the gates of the next block.
-const STORIES: [&str; 9] = [
+// block without bytes, with its sync gate closed. At the end are the gates of the next block, and zeros
+// that were written ahead.
+const STORIES: [&str; 12] = [
     // A block is written and synced.
     "\
 stopped
@@ -71,6 +72,25 @@ left e e",
     "\
 killed 0101 0000000000000000 0101 0100000000000000 65 0001 0000000000000000 0100 0200000000000000 6162 0100
 left e e",
+    // Zeros behind the gates of the next block don't count, nor does a front of a block over them. The log
+    // goes on over both.
+    "\
+killed 0001 0000000000000000 0101 0200000000000000 6162 0100 000000000000000000000000
+out 1
+append c
+left abc ab
+sync
+left abc abc",
+    "\
+killed 0001 0000000000000000 0101 0200000000000000 6162 0100 0200000000000000 6300 0000
+out 11
+left ab ab",
+    // A block that ends with zeros is whole.
+    "\
+killed 0001 0000000000000000 0101 0200000000000000 6100 0100 0000
+out 1
+append c
+file 0101 0000000000000000 0101 0200000000000000 6100 0001 0000000000000000 0101 0100000000000000 63 0100",
 ];
 
 // What is recovered of the file of a crash.
@@ -101,22 +121,25 @@ fn bytes_in(word: &str) -> &[u8] {
     if word == "-" { b"" } else { word.as_bytes() }
 }
 
-// Whether a file has these bytes.
+// Whether a file has these bytes, and nothing but zeros behind them.
 fn has_bytes(alloc: Global, file: &[u8], digits: &str) -> bool {
     match bytes_of(alloc, digits) {
-        Ok(bytes) => file == bytes.as_slice(),
+        Ok(bytes) => match file.strip_prefix(bytes.as_slice()) {
+            Some(behind) => behind.iter().all(|byte| *byte == 0),
+            None => false,
+        },
         Err(_) => false,
     }
 }
 
 // Whether it goes as a line says.
-fn goes<D: InMemory>(alloc: Global, log: &mut Log<D>, line: &str) -> bool {
-    if let Some(bytes) = line.strip_prefix("left ") {
-        return leaves::<D>(alloc, log.device().file(), bytes);
-    }
-    match line.strip_prefix("file ") {
-        Some(digits) => has_bytes(alloc, log.device().file(), digits),
-        None => does(log, line),
+fn goes<D: InMemory>(alloc: Global, found: &mut Recovered<D, Global>, line: &str) -> bool {
+    let (what, rest) = line.split_once(' ').unwrap_or((line, ""));
+    match what {
+        "left" => leaves::<D>(alloc, found.log.device().file(), rest),
+        "file" => has_bytes(alloc, found.log.device().file(), rest),
+        "out" => rest.parse() == Ok(found.left_out),
+        _ => does(&mut found.log, line),
     }
 }
 
@@ -125,7 +148,7 @@ fn plays<D: InMemory>(rt: &impl Abort, alloc: Global, story: &str) {
     let (crash, lines) = story.split_once('\n').expect(rt, "a crash");
     let mut found = recovered::<D>(rt, alloc, crash);
     for line in lines.lines() {
-        assert!(rt; goes(alloc, &mut found.log, line));
+        assert!(rt; goes(alloc, &mut found, line));
     }
     drop(found);
 }

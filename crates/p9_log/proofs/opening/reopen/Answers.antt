@@ -47,5 +47,5 @@ returns-clause-any_moment g c kind =
 pub returns-clause-bytes : goal.returns-clause-bytes
 returns-clause-bytes g c =
     let found = c.in_ok-found.found in
-    sym (content-is c.args.how c.deref.result.now found.bytes.items found.end found.left_out found.kept c.in_ok-found.ensures)
+    sym (content-is c.args.how c.deref.result.now found.bytes.items found.end found.behind found.kept c.in_ok-found.ensures.found)
     ∙ ap (content_in c.args.how) (c.deref.ensures.value ∙ c.in_ok-file.ensures.bytes)

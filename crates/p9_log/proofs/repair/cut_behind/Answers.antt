@@ -15,11 +15,11 @@ returns-in_err-cut_to-clause-any_moment g c kind =
     let start = c.args.device.now in
     let P : List ℕ → Type 0 = λ file. IsCutBehind c.args.end (D.seen start) file in
     let to = c.args.end + c.min.result in
-    let to_is : to ≡ c.args.end + min c.args.left_out 10 = ap (λ (n : ℕ). c.args.end + n) c.min.ensures in
+    let to_is : to ≡ c.args.end + min c.args.behind 10 = ap (λ (n : ℕ). c.args.end + n) c.min.ensures in
     let one = nothing-new D.seen D.moment D.may_leave D.left_since g.met.D.Device.alive g.met.D.Device.counts_now kind P start c.sync.new.self (c.sync.ensures.crash kind) in
     let two = joined D.moment D.may_leave D.left_since kind P start c.sync.new.self c.cut_to.new.device one
     (weaker D.moment D.left_since kind (IsCutTo to (D.seen c.sync.new.self)) P c.sync.new.self c.cut_to.new.device (c.cut_to.ensures.any_moment kind)
-    (λ file cut. first-cut c.args.end c.args.left_out to (D.seen start) file c.requires.ends to_is (subst (λ (f : List ℕ). IsCutTo to f file) c.sync.ensures.seen cut))) in
+    (λ file cut. first-cut c.args.end c.args.behind to (D.seen start) file c.requires.ends to_is (subst (λ (f : List ℕ). IsCutTo to f file) c.sync.ensures.seen cut))) in
     two
 
 pub returns-clause-any_moment : goal.returns-clause-any_moment
@@ -28,11 +28,11 @@ returns-clause-any_moment g c kind =
     let start = c.args.device.now in
     let P : List ℕ → Type 0 = λ file. IsCutBehind c.args.end (D.seen start) file in
     let to = c.args.end + c.min.result in
-    let to_is : to ≡ c.args.end + min c.args.left_out 10 = ap (λ (n : ℕ). c.args.end + n) c.min.ensures in
+    let to_is : to ≡ c.args.end + min c.args.behind 10 = ap (λ (n : ℕ). c.args.end + n) c.min.ensures in
     let one = nothing-new D.seen D.moment D.may_leave D.left_since g.met.D.Device.alive g.met.D.Device.counts_now kind P start c.sync.new.self (c.sync.ensures.crash kind) in
     let two = joined D.moment D.may_leave D.left_since kind P start c.sync.new.self c.cut_to.new.device one
     (weaker D.moment D.left_since kind (IsCutTo to (D.seen c.sync.new.self)) P c.sync.new.self c.cut_to.new.device (c.cut_to.ensures.any_moment kind)
-    (λ file cut. first-cut c.args.end c.args.left_out to (D.seen start) file c.requires.ends to_is (subst (λ (f : List ℕ). IsCutTo to f file) c.sync.ensures.seen cut))) in
+    (λ file cut. first-cut c.args.end c.args.behind to (D.seen start) file c.requires.ends to_is (subst (λ (f : List ℕ). IsCutTo to f file) c.sync.ensures.seen cut))) in
     joined D.moment D.may_leave D.left_since kind P start c.cut_to.new.device c.cut_to-2.new.device two
     (weaker D.moment D.left_since kind (IsCutTo c.args.end (D.seen c.cut_to.new.device)) P c.cut_to.new.device c.cut_to-2.new.device (c.cut_to-2.ensures.any_moment kind)
-    (λ file. second-cut c.args.end c.args.left_out to (D.seen start) (D.seen c.cut_to.new.device) file c.requires.ends to_is (c.in_ok-cut_to.ensures.seen ∙ ap (take to) c.sync.ensures.seen)))
+    (λ file. second-cut c.args.end c.args.behind to (D.seen start) (D.seen c.cut_to.new.device) file c.requires.ends to_is (c.in_ok-cut_to.ensures.seen ∙ ap (take to) c.sync.ensures.seen)))

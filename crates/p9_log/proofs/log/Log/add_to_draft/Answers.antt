@@ -14,6 +14,7 @@ invariant_of-self g c =
     let seen = c.add_to_draft.ensures.seen in
     record {
       at_rest = λ usable. subst (λ file. IsAtRest file self.kept self.end) (sym seen) (self.at_rest usable);
+      whole = λ usable. subst (λ file. self.size ≡ length file) (sym seen) (self.whole usable);
       durable = λ usable. begins_still D.seen D.moment D.may_leave D.left_since g.met.D.Device.alive g.met.D.Device.counts_now self.device c.add_to_draft.new.self
           (self.kept + 1) c.add_to_draft.ensures.crash seen (self.durable usable);
       synced = λ usable. subst (λ file. self.pending ≡ false → content_in Killed file ≡ content_in Stopped file) (sym seen) (self.synced usable);
@@ -35,6 +36,7 @@ invariant_of-self-2 g c =
     let ten : 10 + length bytes ≡ c.args.end = omega (arith, long) in
     record {
       at_rest = λ usable. subst (λ file. IsAtRest file self.kept self.end) (sym seen) (self.at_rest usable);
+      whole = λ usable. subst (λ file. self.size ≡ length file) (sym seen) (self.whole usable);
       durable = λ usable. begins_still D.seen D.moment D.may_leave D.left_since g.met.D.Device.alive g.met.D.Device.counts_now self.device c.add_to_draft.new.self
           (self.kept + 1) c.add_to_draft.ensures.crash seen (self.durable usable);
       synced = λ usable. subst (λ file. self.pending ≡ false → content_in Killed file ≡ content_in Stopped file) (sym seen) (self.synced usable);

@@ -1,4 +1,4 @@
-use Rattle.std.proofs.Common.{◌+◌, ◌≡◌, false, subst, sym}
+use Rattle.std.proofs.Common.{◌+◌, ◌≡◌, false, length, subst, sym}
 use Rattle.p9_log.specs.declared.crash.Crash.TheVariants.{Killed, Stopped}
 use Rattle.p9_log.specs.Blocks.{content_in}
 use Rattle.p9_log.specs.Rest.{IsAtRest}
@@ -12,6 +12,7 @@ invariant_of-self g c =
     let seen = c.begin_draft.ensures.seen in
     record {
       at_rest = λ usable. subst (λ file. IsAtRest file self.kept self.end) (sym seen) (self.at_rest usable);
+      whole = λ usable. subst (λ file. self.size ≡ length file) (sym seen) (self.whole usable);
       durable = λ usable. begins_still D.seen D.moment D.may_leave D.left_since g.met.D.Device.alive g.met.D.Device.counts_now self.device c.begin_draft.new.self
           (self.kept + 1) c.begin_draft.ensures.crash seen (self.durable usable);
       synced = λ usable. subst (λ file. self.pending ≡ false → content_in Killed file ≡ content_in Stopped file) (sym seen) (self.synced usable);
@@ -27,6 +28,7 @@ invariant_of-self-2 g c =
     let seen = c.begin_draft.ensures.seen in
     record {
       at_rest = λ usable. subst (λ file. IsAtRest file self.kept self.end) (sym seen) (self.at_rest usable);
+      whole = λ usable. subst (λ file. self.size ≡ length file) (sym seen) (self.whole usable);
       durable = λ usable. begins_still D.seen D.moment D.may_leave D.left_since g.met.D.Device.alive g.met.D.Device.counts_now self.device c.begin_draft.new.self
           (self.kept + 1) c.begin_draft.ensures.crash seen (self.durable usable);
       synced = λ usable. subst (λ file. self.pending ≡ false → content_in Killed file ≡ content_in Stopped file) (sym seen) (self.synced usable);

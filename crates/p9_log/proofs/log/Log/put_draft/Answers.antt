@@ -1,4 +1,4 @@
-use Rattle.std.proofs.Common.{IsTrue, ℕ, ◌+◌, ◌≡◌, List, false, take, ap, ◌∙◌, subst, sym, arith}
+use Rattle.std.proofs.Common.{IsTrue, ℕ, ◌+◌, ◌≡◌, List, false, length, length-append, take, ap, ◌∙◌, subst, sym, arith}
 use Rattle.p9_log.specs.declared.crash.Crash.TheVariants.{Killed, Stopped}
 use Rattle.p9_log.specs.Blocks.{content_in}
 use Rattle.p9_log.specs.Log.{AlwaysHas}
@@ -6,6 +6,7 @@ use Rattle.p9_log.specs.Rest.{IsAtRest}
 use Rattle.p9_log.proofs.Cuts.{nothing-new}
 use Rattle.p9_log.proofs.Drafts.{as_it_was, begins_still, marked-has, marked-rest, put_leaves}
 use Rattle.p9_log.proofs.Moments.{joined}
+use Rattle.p9_log.proofs.Splits.{marks}
 use Rattle.p9_log.proofs.log.Log.put_draft.Goals as goal
 
 pub invariant_of-self : goal.invariant_of-self
@@ -15,6 +16,7 @@ invariant_of-self g c =
     let seen = c.add_to_draft.ensures.seen in
     record {
       at_rest = λ usable. subst (λ file. IsAtRest file self.kept self.end) (sym seen) (self.at_rest usable);
+      whole = λ usable. subst (λ file. self.size ≡ length file) (sym seen) (self.whole usable);
       durable = λ usable. begins_still D.seen D.moment D.may_leave D.left_since g.met.D.Device.alive g.met.D.Device.counts_now self.device c.add_to_draft.new.self
           (self.kept + 1) c.add_to_draft.ensures.crash seen (self.durable usable);
       synced = λ usable. subst (λ file. self.pending ≡ false → content_in Killed file ≡ content_in Stopped file) (sym seen) (self.synced usable);
@@ -62,6 +64,7 @@ invariant_of-self-2 g c =
     let has = marked-has (D.drafted self.device) (D.seen new) self.drafted d is in
     record {
       at_rest = λ _. marked-rest (D.drafted self.device) (D.seen new) self.drafted d is;
+      whole = λ _. omega (arith, ap length is, length-append (D.drafted self.device) marks, d.size);
       durable = λ _ file now. ap (take (self.drafted + 1)) (c.in_ok-put_draft.ensures.durable file now ∙ sym put);
       synced = λ _ _. has Killed ∙ sym (has Stopped);
       near = λ _. omega (arith, d.near);
