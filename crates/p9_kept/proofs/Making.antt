@@ -53,15 +53,6 @@ makes-none draft noted empty none =
       stood = ap stood_for is ∙ stood-nil [] [] refl;
     }
 
--- what is behind a draft may go into it
-pub makes-moved : (draft noted longer : List ℕ) (forest : List Server)
-    → content_in Stopped longer ≡ content_in Stopped draft ++ noted → Makes draft noted forest
-    → Makes longer [] forest
-makes-moved draft noted longer forest is made =
-    let same : content_in Stopped longer ++ [] ≡ content_in Stopped draft ++ noted =
-    append-nil (content_in Stopped longer) ∙ is in
-    record { whole = subst IsWhole (sym same) made.whole; stood = ap stood_for same ∙ made.stood }
-
 -- a change of the last server
 pub changed-last : (front : List Server) (change : Server → Server) (s : Server)
     → tree_changed_at (length front) change (front ++ s ∷ []) ≡ front ++ change s ∷ []
@@ -139,10 +130,6 @@ module _ (front : List Server) (made : Server) (n : Node) (at end : ℕ) (piece 
         | None ↦ λ none. absurd (let no_bytes : length n.bytes ≡ 0 = ap length (next.root none) in omega arith)
         | Some dir ↦ λ some. behind-parent dir some
       ] refl
-
--- the node with all of its bytes
-pub with_front-all : (n : Node) (k : ℕ) → length n.bytes ≤ k → with_front k n ≡ n
-with_front-all n k all = ap (λ b. record n { bytes = b }) (take_all k n.bytes all)
 
 -- a saved node with the first of its bytes
 pub saved-front : (saved : Saved) (n : Node) (k : ℕ) (bytes : List ℕ) → saved_node saved ≡ n
@@ -235,17 +222,6 @@ pub record IsMadeTo (number : ℕ) (s made : Server) : Type 0 where
   pub below : All (λ n. n.number < number) before
   pub from : All (λ n. number ≤ n.number) rest
   pub is : made ≡ made_to number before
-
--- at first nothing but a root is made
-pub made-first : (s : Server) → IsMadeTo 0 s rooted
-made-first s = record {
-  before = [];
-  rest = s.nodes;
-  all = refl;
-  below = All-nil (λ n. n.number < 0);
-  from = λ i d lt. omega arith;
-  is = refl;
-}
 
 -- what holds of all holds of the first from a number on
 All-node_from : (P : Node → Type 0) (k : ℕ) (xs : List Node) (n : Node) → All P xs

@@ -7,10 +7,6 @@ use Rattle.p9_kept.specs.Making.{IsUntouched}
 
 module _ {D : Type 0} (moment : D → ℕ) (left_since : D → Crash → ℕ → List ℕ → Type 0) (how : Crash)
     (P : List ℕ → Type 0) where
-  -- before the first call
-  pub leaves-same : (old : D) → LeavesOnly moment left_since how P old old
-  leaves-same old = record { later = omega arith; since = λ t c le left. inl left }
-
   -- one call after another
   pub leaves-then : (old mid new : D) → LeavesOnly moment left_since how P old mid
       → LeavesOnly moment left_since how P mid new → LeavesOnly moment left_since how P old new
@@ -33,13 +29,6 @@ leaves-weaker moment left_since how P Q old new so leaves = record {
 
 module _ {D : Type 0} (seen : D → List ℕ) (moment : D → ℕ) (may_leave : D → Crash → List ℕ → Type 0)
     (left_since : D → Crash → ℕ → List ℕ → Type 0) where
-  pub untouched-same : (old : D) → IsUntouched seen moment may_leave left_since old old
-  untouched-same old = record {
-    same = refl;
-    no_more = λ how c left. left;
-    any_moment = λ how. leaves-same moment left_since how Nothing old;
-  }
-
   pub untouched-then : (old mid new : D) → IsUntouched seen moment may_leave left_since old mid
       → IsUntouched seen moment may_leave left_since mid new
       → IsUntouched seen moment may_leave left_since old new

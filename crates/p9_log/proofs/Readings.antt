@@ -201,9 +201,6 @@ pub closed : (gate : ℕ) (rest : List ℕ) → eqb gate 1 ≡ false → block_a
 closed gate [] e = refl
 closed gate (w ∷ rest) e = rw e refl
 
-counts-killed : (gate : ℕ) → counts Killed gate 1 ≡ true
-counts-killed gate = refl
-
 -- no block after a kill, no block after a stop
 pub killed-stop : (file : List ℕ) → block_at Killed file ≡ None → block_at Stopped file ≡ None
 killed-stop file none =

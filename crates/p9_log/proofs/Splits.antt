@@ -77,9 +77,6 @@ module _ (file : List ℕ) (kept end : ℕ) (s : IsSplit file kept end) where
       ap (take (kept + 1)) (sym (append_assoc front (gate ∷ []) more))
       ∙ take_at (front ++ gate ∷ []) more (kept + 1) long
 
-  pub front-same : (more : List ℕ) → take (kept + 1) (front ++ gate ∷ more) ≡ take (kept + 1) file
-  front-same more = front-taken more ∙ sym (front-taken (rest ++ tail)) ∙ ap (take (kept + 1)) (sym parted)
-
   -- what begins so
   pub front-stopped : (c : List ℕ) → take (kept + 1) c ≡ take (kept + 1) file → content_in Stopped c ≡ content_in Stopped file
   front-stopped c same =

@@ -3,7 +3,7 @@ use Rattle.std.proofs.Common.{◌≡◌, ◌⊎◌, inl, inr, ℕ, zero, suc, �
 use Rattle.std.proofs.Common.{length, get_or, take, drop, sym, ap, ◌∙◌, append_assoc, arith, subst}
 use Rattle.std.proofs.Common.{take-append-drop, length-append, length-drop, max}
 use Rattle.std.proofs.Math.Seq.{drop-append-add}
-use Rattle.std.proofs.lemmas.List.{take_at, take_min, drop_more, take-take, length-take, length-take-le}
+use Rattle.std.proofs.lemmas.List.{take_at, drop_more, take-take, length-take, length-take-le}
 use Rattle.p9_log.specs.declared.crash.Crash.{Crash}
 use Rattle.p9_log.specs.declared.crash.Crash.TheVariants.{Killed, Stopped}
 use Rattle.p9_log.specs.Device.{After, Holds, IsSame, IsSameTo, IsWritten, Torn}
@@ -72,10 +72,6 @@ after-same P outcomes here c after = subst P (sym after.2) (here after.0 after.1
 pub same-to : (k n : ℕ) (old new : List ℕ) → k ≤ n → k ≤ length old → IsSameTo n old new → take k new ≡ take k old
 same-to k n old new le there same =
     sym (take-take k (min n (length old)) new (omega arith)) ∙ ap (take k) same ∙ take-take k n old le
-
--- nothing is written
-pub same-none : (n : ℕ) (file : List ℕ) → IsSameTo n file file
-same-none n file = take_min n file
 
 -- something is written from an offset on, or a front or any bytes of it
 pub written-same : (how : Crash) (at : ℕ) (bytes old new : List ℕ) → IsWritten how at bytes old new → IsSameTo at old new
