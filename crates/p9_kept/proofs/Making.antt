@@ -5,7 +5,7 @@ use Rattle.std.specs.Option.{option_map_or}
 use Rattle.std.proofs.lemmas.Bool.{cases_lt}
 use Rattle.std.proofs.lemmas.Bool.Decides.{nat_tests}
 use Rattle.std.proofs.lemmas.List.{drop-take, take-append-drop, take-take, length-map, length-take, append-nil, drop_all, take_all}
-use Rattle.std.proofs.lemmas.List.Elements.{All-cons, All-head, All-nil, All-tail, All-push, All-weaker}
+use Rattle.std.proofs.lemmas.List.Elements.{All-cons, All-head, All-tail, All-push, All-weaker}
 use Rattle.p9_base.specs.declared.mode.Kind.{Kind}
 use Rattle.p9_base.specs.declared.mode.Kind.TheVariants.{Directory, File}
 use Rattle.p9_base.specs.Mode.{is_dir_kind}

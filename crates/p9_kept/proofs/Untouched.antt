@@ -1,5 +1,5 @@
 -- Calls that change nothing of a file, one after another.
-use Rattle.std.proofs.Common.{⊎_elim, inl, inr, ℕ, ◌≤◌, List, refl, ◌∙◌, arith}
+use Rattle.std.proofs.Common.{⊎_elim, inl, inr, ℕ, ◌≤◌, List, ◌∙◌, arith}
 use Rattle.p9_log.specs.declared.crash.Crash.{Crash}
 use Rattle.p9_log.specs.Log.{Nothing}
 use Rattle.p9_log.specs.Device.{LeavesOnly}
