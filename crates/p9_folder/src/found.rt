@@ -5,7 +5,7 @@ ghost use Rattle.std.specs.Prelude.{◌≡◌, nat_lt};
 use p9_log::Crash;
 use std::fmt::{self, Display};
 
-// A log that was ended whole has so many bytes behind the last block that counts.
+// A log that was ended whole has at most so many bytes behind the last block that counts, but for zeros.
 const END: usize = 12;
 
 /// What was found in a folder: how its last server ended, and how many bytes of changes don't count.

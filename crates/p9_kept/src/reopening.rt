@@ -31,7 +31,7 @@ pub enum ReopenError {
 pub struct Reopened<D: Device, A: Allocator + Copy, T: Tree<Alloc = A>> {
     pub forest: Forest<T>,
     pub journal: FileJournal<D, A>,
-    /// How many bytes of the file were behind the last block that counts.
+    /// How many bytes of the file were behind the last block that counts, up to the last that isn't 0.
     pub left_out: usize,
 }
 

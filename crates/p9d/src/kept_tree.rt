@@ -23,7 +23,7 @@ pub(crate) type Trees = IndexTree<Global, FileJournal<FileDevice, Global>>;
 pub(crate) struct Opened<T: Tree> {
     pub forest: Forest<T>,
     pub journal: T::Journal,
-    /// How many bytes of the journal were behind the last block that counts.
+    /// How many bytes of the journal were behind the last block that counts, up to the last that isn't 0.
     pub left_out: usize,
 }
 
