@@ -14,7 +14,7 @@ use Rattle.std.proofs.lemmas.Str.Parse.{IsNumeralModel, numerals_by_value}
 use Rattle.p9_base.specs.declared.node_ref.NodeRef.{NodeRef}
 use Rattle.p9_cert.specs.Rows.{IsCertificate, IsRow}
 use Rattle.p9_cert.specs.Text.{certificate_text, row_text}
-use Rattle.p9_seal.specs.Text.{ended}
+use Rattle.p9_prepared.specs.Bundle.{ended}
 use Rattle.p9_seal.proofs.Pieces.{AreLines, IsLine}
 use Rattle.p9_seal.proofs.Resealed.{BeginsNone}
 

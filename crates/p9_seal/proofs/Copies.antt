@@ -4,7 +4,8 @@ use Rattle.std.proofs.Common.{map}
 use Rattle.std.proofs.Common.{sym, ap, ◌∙◌, arith, append_assoc, append-nil, refl}
 use Rattle.std.specs.List.{flat_map}
 use Rattle.std.proofs.lemmas.List.{get_or-map, length-map, drop_more, drop_all}
-use Rattle.p9_seal.specs.Text.{cert_head, ended, lines_after, lines_before, sealed_text}
+use Rattle.p9_prepared.specs.Bundle.{ended}
+use Rattle.p9_seal.specs.Text.{cert_head, lines_after, lines_before, sealed_text}
 use Rattle.p9_base.specs.Line.{whole_lines}
 
 module _ (items : List (Bor (List ℕ))) (i : ℕ) (out whole : List ℕ) where

@@ -13,7 +13,7 @@ use Rattle.std.proofs.lemmas.List.Elements.{All-from_recursion}
 use Rattle.std.proofs.lemmas.List.Splits.{slice_split_at}
 use Rattle.p9_base.specs.Line.{lines_of}
 use Rattle.p9_base.specs.Line.{ends_empty, whole_lines}
-use Rattle.p9_seal.specs.Text.{ended}
+use Rattle.p9_prepared.specs.Bundle.{ended}
 
 -- Lines without a newline.
 

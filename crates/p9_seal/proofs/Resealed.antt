@@ -11,7 +11,8 @@ use Rattle.p9_base.specs.Results.{and_then, try_fold}
 use Rattle.p9_prepared.specs.Bundle.{Reading, Texts, bundle_of, unread, with_numbered_line}
 use Rattle.p9_prepared.specs.Statements.{SameStatements, statements_in}
 use Rattle.p9_seal.specs.Sections.{HasCertificate}
-use Rattle.p9_seal.specs.Text.{begins_certificate_or_script, begins_script, cert_head, ended}
+use Rattle.p9_prepared.specs.Bundle.{ended}
+use Rattle.p9_seal.specs.Text.{begins_certificate_or_script, begins_script, cert_head}
 use Rattle.p9_base.specs.Line.{ends_empty}
 use Rattle.p9_base.specs.Line.{whole_lines}
 use Rattle.p9_seal.specs.Text.{lines_after, lines_before, sealed_text}

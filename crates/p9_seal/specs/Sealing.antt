@@ -1,5 +1,5 @@
 -- The sealing of an input.
-use Rattle.std.specs.Prelude.{◌≡◌, ◌==◌, ◌||◌, ℕ, Bool, true, false, List, Some, None, Result, Ok, Err}
+use Rattle.std.specs.Prelude.{◌≡◌, ◌==◌, ◌||◌, ℕ, Bool, true, false, List, Some, None, Ok, Err}
 use Rattle.std.specs.Prelude.{IsTrue}
 use Rattle.std.specs.List.{AllByRecursion, list_all}
 use Rattle.p9_base.specs.Line.{is_blank}
@@ -17,7 +17,6 @@ use Rattle.p9_prepared.specs.Bundle.{Texts, bundle_of}
 use Rattle.p9_prepared.specs.NameSpace.{NameSpace, gap_over}
 use Rattle.p9_prepared.specs.Prepared.{prepared_of, space_of}
 use Rattle.p9_prepared.specs.declared.prepared.Needs.{Needs}
-use Rattle.p9_prepared.specs.declared.refusal.Refusal.{Refusal}
 use Rattle.p9_seal.specs.Error.{change_against, vacuity_against}
 use Rattle.p9_seal.specs.Sections.{HasCertificate}
 use Rattle.p9_seal.specs.Text.{sealed_text}

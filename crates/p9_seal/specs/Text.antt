@@ -1,15 +1,12 @@
 -- The bytes of an input with a certificate in its place.
-use Rattle.std.specs.Prelude.{ℕ, ◌-◌, ◌==◌, ◌&&◌, ◌||◌, Bool, not, nat_lt, List, [], ◌∷◌, ◌++◌}
-use Rattle.std.specs.Prelude.{length, take, drop, if◌then◌else◌}
-use Rattle.std.specs.List.{flat_map, prefix_len, slice_index_or}
+use Rattle.std.specs.Prelude.{ℕ, ◌||◌, Bool, not, List, ◌++◌}
+use Rattle.std.specs.Prelude.{take, drop}
+use Rattle.std.specs.List.{flat_map, prefix_len}
 use Rattle.std.specs.Str.{bytes_eq}
 use Rattle.p9_base.specs.Line.{whole_lines}
+use Rattle.p9_prepared.specs.Bundle.{ended}
 use Rattle.p9_prepared.specs.Section.{head_of}
 use Rattle.p9_prepared.specs.declared.section.Section.TheVariants.{Cert, Script}
-
--- a line with its newline
-abbrev pub ended : List ℕ → List ℕ
-ended line = line ++ 10 ∷ []
 
 -- the lines that begin the sections of a certificate and of a script
 abbrev pub cert_head : List ℕ

@@ -3,7 +3,8 @@
 ghost use Rattle.std.specs.Prelude.{◌≡◌, ◌≤◌, ◌++◌, IfOk, OnOk, length, map, not};
 ghost use Rattle.std.specs.List.{flat_map, prefix_len};
 ghost use Rattle.std.specs.String.{string_bytes};
-ghost use Rattle.p9_seal.specs.Text.{begins_certificate_or_script, begins_script, ended, lines_after};
+ghost use Rattle.p9_prepared.specs.Bundle.{ended};
+ghost use Rattle.p9_seal.specs.Text.{begins_certificate_or_script, begins_script, lines_after};
 ghost use Rattle.p9_seal.specs.Text.{lines_before, sealed_text};
 
 use p9_base::{NoMemory, whole_lines};

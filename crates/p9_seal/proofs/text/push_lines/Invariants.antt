@@ -1,7 +1,7 @@
 use Rattle.std.proofs.Common.{◌≡◌, ◌++◌, drop, map}
 use Rattle.std.specs.List.{flat_map}
 use Rattle.std.specs.String.{string_bytes}
-use Rattle.p9_seal.specs.Text.{ended}
+use Rattle.p9_prepared.specs.Bundle.{ended}
 use Rattle.p9_seal.proofs.text.push_lines.Given as goal
 
 -- the text so far, with the lines that are left after it, is the one before with all lines

@@ -1,6 +1,7 @@
 use Rattle.std.proofs.Common.{ℕ, Bor, List, ◌++◌, map, ap, ◌∙◌}
 use Rattle.std.specs.String.{string_bytes}
-use Rattle.p9_seal.specs.Text.{ended, lines_after, lines_before}
+use Rattle.p9_prepared.specs.Bundle.{ended}
+use Rattle.p9_seal.specs.Text.{lines_after, lines_before}
 use Rattle.p9_seal.proofs.Copies.{sealed-by}
 use Rattle.p9_seal.proofs.text.with_certificate.Goals as goal
 
