@@ -2,6 +2,7 @@
 //! comes to.
 #![tactic(auto)]
 
+mod accepting;
 mod address;
 mod check;
 mod client;

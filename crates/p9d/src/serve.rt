@@ -1,5 +1,6 @@
 //! The rounds: clients are taken in at each address, and each has a turn.
 
+use crate::accepting::Accepting;
 use crate::client::Coming;
 use crate::door::{Arrival, Door, Origin, close_doors, shown_origin};
 use crate::end::{has_ended, is_pipe};
@@ -10,7 +11,7 @@ use crate::kept_tree::KeptTree;
 use crate::visit::{Shared, Visit};
 use crate::visitors::Visitors;
 use p9_guard::Guard;
-use p9_serve::{Clients, Pace, Round, Tally};
+use p9_serve::{Clients, Round, Tally};
 use p9_shell::Failure;
 use p9_tree::Unsettled;
 use std::alloc::{AllocError, Global};
@@ -18,7 +19,7 @@ use std::io::{self, ErrorKind};
 use std::net::SocketAddr;
 use std::rc::Rc;
 use std::thread;
-use std::time::{SystemTime, UNIX_EPOCH};
+use std::time::{Duration, SystemTime, UNIX_EPOCH};
 
 // After so many turns that moved something the clock is read again.
 const TURNS_OF_A_READING: u64 = 16;
@@ -58,7 +59,7 @@ impl From<Stop> for Failure {
 pub(crate) struct Daemon {
     doors: Vec<Door>,
     visitors: Visitors,
-    pace: Pace,
+    accepting: Accepting,
     // What keeps the changes, if they are kept.
     keeper: Option<Keeper>,
 }
@@ -69,7 +70,7 @@ impl Daemon {
         Daemon {
             doors,
             visitors,
-            pace: Pace::new(),
+            accepting: Accepting::new(),
             keeper,
         }
     }
@@ -178,7 +179,7 @@ impl Daemon {
 
     // Rests, where nothing has happened for some rounds.
     fn rest(&self, rt: &HostRuntime) {
-        let length = self.pace.rest();
+        let length = self.accepting.rest();
         if !length.is_zero() {
             thread::sleep(rt, length);
         }
@@ -186,7 +187,9 @@ impl Daemon {
 
     // Reads the clock. Where a second begins, clients that are late are closed.
     fn is_new_second(&mut self, rt: &HostRuntime) -> io::Result<bool> {
-        let now = seconds(rt)?;
+        let since = since_1970(rt)?;
+        self.accepting.read_clock(since.subsec_millis());
+        let now = since.as_secs();
         if now == self.visitors.shared.now.get() {
             return Ok(false);
         }
@@ -201,24 +204,26 @@ impl Daemon {
         (self.visitors.shared.now.get() % 0x1_0000_0000) as u32
     }
 
-    // A round, as that of `p9 serve`, with an accept at each door. Returns how many turns moved
-    // something.
+    // A round, as that of `p9 serve`, with an accept at each door where that is due. Returns how many
+    // turns moved something.
     fn round<S: Coming, T: KeptTree>(
         &mut self,
         alloc: Global,
         clients: &mut Clients<S, T>,
     ) -> Result<u64, Unsettled> {
-        let accepted = if self.pace.is_due() || clients.is_empty() {
+        let accepts = self.accepting.is_due() || clients.is_empty();
+        let accepted = if accepts {
             self.accept_all(alloc, clients)
         } else {
             0
         };
         let tally = self.turns(clients)?;
-        self.pace.count(Round {
+        let round = Round {
             accepted,
             moved: tally.moved,
             closed: tally.closed,
-        });
+        };
+        self.accepting.count(accepts, round);
         if tally.closed > 0 {
             self.visitors.forget_gone();
         }
@@ -319,12 +324,8 @@ fn note_failure(door: &mut Door, shared: &Shared, error: &io::Error) {
     shared.tell(Level::Error, error);
 }
 
-// The whole seconds since 1970. A clock that is before 1970 reads 0.
-fn seconds(rt: &HostRuntime) -> io::Result<u64> {
+// How long ago 1970 began. By a clock that is before 1970 no time has passed.
+fn since_1970(rt: &HostRuntime) -> io::Result<Duration> {
     let clock = SystemTime::now(rt)?;
-    Ok(
-        clock
-            .duration_since(UNIX_EPOCH)
-            .map_or(0, |since| since.as_secs()),
-    )
+    Ok(clock.duration_since(UNIX_EPOCH).unwrap_or(Duration::ZERO))
 }
