@@ -47,10 +47,21 @@ fn unpack_kept(
     local: &str,
     accounts: Option<&Accounts<'_, Global>>,
 ) -> Result<u8, Failure> {
+    let present = read_present(rt, folder)?;
+    unpack_present(rt, present, local, accounts)
+}
+
+// Writes the trees of what is kept into a new directory.
+fn unpack_present<T: Tree<Alloc = Global>>(
+    rt: &HostRuntime,
+    present: Present<T>,
+    local: &str,
+    accounts: Option<&Accounts<'_, Global>>,
+) -> Result<u8, Failure> {
     let Present {
         export: _,
         prepared,
-    } = read_present(rt, folder)?;
+    } = present;
     let done = unpack_world(rt, &prepared.space.world, local, accounts);
     prepared.discard();
     done

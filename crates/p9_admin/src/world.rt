@@ -24,7 +24,18 @@ pub(crate) fn run_world(rt: &HostRuntime, options: &ArgMatches<'_>) -> Result<u8
     let Some(folder) = options.get_str("folder") else {
         return Err(PROGRAM.bad_words(rt));
     };
-    let Present { export, prepared } = read_present(rt, folder)?;
+    let present = read_present(rt, folder)?;
+    print_present(rt, options, folder, present)
+}
+
+// Prints what is kept in a folder, and returns the exit status.
+fn print_present<T: Tree<Alloc = Global>>(
+    rt: &HostRuntime,
+    options: &ArgMatches<'_>,
+    folder: &str,
+    present: Present<T>,
+) -> Result<u8, Failure> {
+    let Present { export, prepared } = present;
     let text = text_in(rt, folder, export.as_slice(), &prepared.space);
     prepared.discard();
     let (text, status) = text?;

@@ -1,12 +1,12 @@
 -- The first that there is, and loops that look for it.
-use Rattle.std.proofs.Common.{◌≡◌, ℕ, zero, suc, ◌+◌, ◌<◌, ◌≤◌, Bool, true, false, List}
+use Rattle.std.proofs.Common.{◌≡◌, ℕ, zero, suc, ◌+◌, ◌<◌, Bool, true, false, List}
 use Rattle.std.proofs.Common.{[], ◌∷◌, Option, Some, None, refl, sym, ap, ◌∙◌, arith}
 use Rattle.std.proofs.Common.{length}
 use Rattle.std.proofs.Common.{drop, get_or}
 use Rattle.std.specs.Prelude.{slice_get}
 use Rattle.std.specs.List.{AllByRecursion}
 use Rattle.std.specs.Option.{option_map, option_or}
-use Rattle.std.proofs.lemmas.List.{drop_more, drop_all}
+use Rattle.std.proofs.lemmas.List.{drop_more}
 use Rattle.p9_cert.specs.Gap.{first_of, first_counted, where_true}
 
 pub no_or : {X : Type 0} (a b : Option X) → option_or a b ≡ None → (a ≡ None) × (b ≡ None)
@@ -42,25 +42,12 @@ module _ {X Y : Type 0} (f : X → Option Y) where
       ap (first_of f) (drop_more xs i d l)
       ∙ ap (λ y. option_or (f y) (first_of f (drop (i + 1) xs))) (sym at)
 
-  -- a loop goes on
-  pub first-next : (xs : List X) (i : ℕ) (x d : X) (o : Option Y) → i < length xs
-      → x ≡ get_or xs i d
-      → f x ≡ None → first_of f (drop i xs) ≡ o → first_of f (drop (i + 1) xs) ≡ o
-  first-next xs i x d o l at none kept =
-      sym (first-drop xs i x d l at ∙ ap (λ p. option_or p (first_of f (drop (i + 1) xs))) none)
-      ∙ kept
-
   -- it ends at one
   pub first-found : (xs : List X) (i : ℕ) (x d : X) (y : Y) (o : Option Y) → i < length xs
       → x ≡ get_or xs i d → f x ≡ Some y → first_of f (drop i xs) ≡ o → Some y ≡ o
   first-found xs i x d y o l at some kept =
       sym (first-drop xs i x d l at ∙ ap (λ p. option_or p (first_of f (drop (i + 1) xs))) some)
       ∙ kept
-
-  -- it ends with none
-  pub first-end : (xs : List X) (i : ℕ) (o : Option Y) → length xs ≤ i → first_of f (drop i xs) ≡ o
-      → None ≡ o
-  first-end xs i o l kept = sym (ap (first_of f) (drop_all i xs l)) ∙ kept
 
   -- what it begins with, of a thing that is asked for by its place
   pub first-at : (xs : List X) (i : ℕ) (x : X) → slice_get xs i ≡ Some x
@@ -93,30 +80,6 @@ module _ {X Y : Type 0} (f : ℕ → X → Option Y) where
   none-counted P h k [] all = refl
   none-counted P h k (x ∷ xs) all =
       or_none (f k x) (first_counted f (k + 1) xs) (h k x all.0) (none-counted P h (k + 1) xs all.1)
-
-  pub counted-drop : (xs : List X) (i k : ℕ) (x d : X) → i < length xs → x ≡ get_or xs i d
-      → first_counted f k (drop i xs)
-      ≡ option_or (f k x) (first_counted f (k + 1) (drop (i + 1) xs))
-  counted-drop xs i k x d l at =
-      ap (first_counted f k) (drop_more xs i d l)
-      ∙ ap (λ y. option_or (f k y) (first_counted f (k + 1) (drop (i + 1) xs))) (sym at)
-
-  pub counted-next : (xs : List X) (i k : ℕ) (x d : X) (o : Option Y) → i < length xs
-      → x ≡ get_or xs i d → f k x ≡ None → first_counted f k (drop i xs) ≡ o
-      → first_counted f (k + 1) (drop (i + 1) xs) ≡ o
-  counted-next xs i k x d o l at none kept =
-      sym (counted-drop xs i k x d l at
-      ∙ ap (λ p. option_or p (first_counted f (k + 1) (drop (i + 1) xs))) none) ∙ kept
-
-  pub counted-found : (xs : List X) (i k : ℕ) (x d : X) (y : Y) (o : Option Y) → i < length xs
-      → x ≡ get_or xs i d → f k x ≡ Some y → first_counted f k (drop i xs) ≡ o → Some y ≡ o
-  counted-found xs i k x d y o l at some kept =
-      sym (counted-drop xs i k x d l at
-      ∙ ap (λ p. option_or p (first_counted f (k + 1) (drop (i + 1) xs))) some) ∙ kept
-
-  pub counted-end : (xs : List X) (i k : ℕ) (o : Option Y) → length xs ≤ i
-      → first_counted f k (drop i xs) ≡ o → None ≡ o
-  counted-end xs i k o l kept = sym (ap (first_counted f k) (drop_all i xs l)) ∙ kept
 
 module _ {X Y : Type 0} (f : X → Option Y) (xs : List X) (i : ℕ) (x : X) where
   -- a loop that asks for things by their places goes on

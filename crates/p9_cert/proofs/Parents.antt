@@ -126,9 +126,6 @@ module _ (policy : Policy) (forest : List Server) (at : NodeRef) where
 
 -- A row more is shown.
 
-pub shown-none : (hidden : List NodeRef) (forest : List Server) → AreNotBarred hidden forest []
-shown-none hidden forest = record { each = λ at e. let no : false ≡ true = e in absurd (cc) }
-
 pub shown-more : (hidden : List NodeRef) (forest : List Server) (rows : List NodeRef) (i : ℕ)
     (row d : NodeRef) → i < length rows → row ≡ get_or rows i d
     → is_barred row hidden forest ≡ false → AreNotBarred hidden forest (take i rows)
@@ -201,15 +198,3 @@ module _ (policy : Policy) (forest : List Server) (rows : List NodeRef) (at : No
         go false false false p q =
             ap (λ b. where_true (b && not (is_row rows at)) Missing)
             (shut-not-passable policy.users policy.groups n (rw (p, q) refl))
-
-    -- one that isn't a row, and isn't hidden, is missing where somebody may pass it
-    pub fault-shown : is_hidden at policy.hidden ≡ false → is_row rows at ≡ false
-        → member_fault policy forest rows at
-        ≡ where_true (is_passable policy.users policy.groups n) Missing
-    fault-shown hid row =
-        rw (outside, here, hid, row) (ap (λ b. where_true b Missing) (always
-        (is_passable policy.users policy.groups n)))
-      where
-        always : (b : Bool) → (b && true) ≡ b
-        always true = refl
-        always false = refl

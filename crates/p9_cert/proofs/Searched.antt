@@ -2,13 +2,13 @@
 use Rattle.std.proofs.Common.{◌≡◌, ◌≢◌, ℕ, ◌-◌, ◌<◌, ◌≤◌, Bool, true, false, List, []}
 use Rattle.std.proofs.Common.{◌∷◌, ◌++◌, inl, inr, refl, sym, ap, ◌∙◌, subst}
 use Rattle.std.proofs.Common.{arith}
-use Rattle.std.proofs.Common.{length, get_or, take, AllPairs}
+use Rattle.std.proofs.Common.{length, get_or, AllPairs}
 use Rattle.std.specs.Prelude.{IsTrue}
 use Rattle.std.specs.List.Sorted.{IsPartitionPoint, IsPartitionedBy}
 use Rattle.std.specs.Option.{option_map_or}
 use Rattle.std.proofs.lemmas.Bool.{cases_lt}
 use Rattle.std.proofs.lemmas.Bool.Decides.{nat_tests}
-use Rattle.std.proofs.lemmas.List.{get_or-take, get_or_default, length-take}
+use Rattle.std.proofs.lemmas.List.{get_or_default}
 use Rattle.std.proofs.lemmas.Option.{slice_get_read}
 use Rattle.std.proofs.lemmas.List.Folds.{list_any_at, list_any_none}
 use Rattle.std.proofs.lemmas.List.Elements.{All-push}
@@ -119,12 +119,3 @@ certificate-push rows row certificate follow sound = record {
       (follows rows row certificate.rising follow);
   sound = All-push IsRow rows row certificate.sound sound;
 }
-
--- the first rows rise
-pub rising-take : (rows : List NodeRef) (n : ℕ) → Rising rows → Rising (take n rows)
-rising-take rows n rising i j d lt within =
-    let short : j < n = omega (arith, length-take n rows) in
-    let long : j < length rows = omega (arith, length-take n rows) in
-    let a : get_or (take n rows) i d ≡ get_or rows i d = get_or-take n rows i d (omega arith) in
-    let b : get_or (take n rows) j d ≡ get_or rows j d = get_or-take n rows j d short in
-    rw (a, b) (rising i j d lt long)

@@ -1,6 +1,6 @@
 -- A call of a session, from its steps: a request is written, a frame read, its reply looked at, and
 -- the session settled.
-use Rattle.std.proofs.Common.{◌≡◌, ◌∙◌, ℕ, false, true, List, Option, Result, Ok, Err, inr, length, refl, subst, sym}
+use Rattle.std.proofs.Common.{◌≡◌, ◌∙◌, ℕ, false, List, Option, Result, Ok, Err, inr, length, refl, subst, sym}
 use Rattle.std.proofs.Math.Seq.{take-length}
 use Rattle.std.proofs.KnownBytes.{Appends-kept}
 use Rattle.std.specs.Io.KnownBytes.{Appends}
@@ -12,8 +12,8 @@ use Rattle.p9_client.specs.declared.error.ClientError.TheVariants.{BadSize, NoMe
 use Rattle.p9_client.specs.declared.error.ClientError.TheVariants.{OtherType, Unasked, NoMemory}
 use Rattle.p9_client.specs.Frame.{IsBadSize}
 use Rattle.p9_client.specs.Reply.{IsTaken}
-use Rattle.p9_client.specs.Session.{Asks, GetsNone, IsAsked, IsCall, IsReceived, IsSendable, IsSettled}
-use Rattle.p9_client.specs.Session.{ReadsNone, ReceivesNone, Sends, Talk}
+use Rattle.p9_client.specs.Session.{Asks, GetsNone, IsAsked, IsCall, IsReceived, IsSettled}
+use Rattle.p9_client.specs.Session.{Sends, Talk}
 use Rattle.p9_client.proofs.Exchanged.{kept-Consumes}
 
 module _ {S : Type 0} (remaining contents : S → Option (List ℕ)) where
@@ -87,35 +87,6 @@ module _ {S : Type 0} (remaining contents : S → Option (List ℕ)) where
   asks request tag old mid new (Err OtherType) sent read = absurd read
   asks request tag old mid new (Err Unasked) sent read = absurd read
   asks request tag old mid new (Err NoMemory) sent read = absurd read
-
-  -- where a request that can be sent is not, the session has failed
-  pub unsent-fails : (request : TMessage) (tag : ℕ) (old new : Talk S) (error : ClientError)
-      → ReadsNone remaining contents request tag old new error → IsSendable old.msize request
-      → new.failed ≡ true
-  unsent-fails request tag old new (Refused reason) none sendable = absurd none
-  unsent-fails request tag old new TooLong none sendable = absurd (none.1 sendable)
-  unsent-fails request tag old new Over none sendable = rw none.1 none.0
-  unsent-fails request tag old new (Stream error) none sendable = none.failed
-  unsent-fails request tag old new BadSize none sendable = none.failed
-  unsent-fails request tag old new NoMessage none sendable = absurd none
-  unsent-fails request tag old new OtherTag none sendable = absurd none
-  unsent-fails request tag old new OtherType none sendable = absurd none
-  unsent-fails request tag old new Unasked none sendable = absurd none
-  unsent-fails request tag old new NoMemory none sendable = absurd none
-
-  -- where no frame is read, the session has failed
-  pub unread-fails : (old new : Talk S) (error : ClientError)
-      → ReceivesNone remaining contents old new error → new.failed ≡ true
-  unread-fails old new (Refused reason) none = absurd none
-  unread-fails old new TooLong none = absurd none
-  unread-fails old new Over none = absurd none
-  unread-fails old new (Stream error) none = none.failed
-  unread-fails old new BadSize none = none.failed
-  unread-fails old new NoMessage none = absurd none
-  unread-fails old new OtherTag none = absurd none
-  unread-fails old new OtherType none = absurd none
-  unread-fails old new Unasked none = absurd none
-  unread-fails old new NoMemory none = absurd none
 
   -- a version that gives nothing changes no msize
   pub no-version : {T : Type 0} (request : TMessage) (tag kind : ℕ) (Gives : RMessage → T → Type 0)

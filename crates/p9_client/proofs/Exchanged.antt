@@ -1,7 +1,7 @@
 -- Requests that are written and answers that are read, one after another.
 use Rattle.std.proofs.Common.{◌≡◌, ℕ, ◌+◌, ◌<◌, ◌≤◌, ◌∙◌, List, [], ◌∷◌, ◌++◌, None, Option, Some, ap}
 use Rattle.std.proofs.Common.{append-nil, append_assoc, arith, length, length-append, map, refl, subst, sym}
-use Rattle.std.proofs.KnownBytes.{Appends-kept, Appends-nil, Appends-trans, Consumes-nil, Consumes-trans, Keeps-refl, Keeps-trans}
+use Rattle.std.proofs.KnownBytes.{Appends-kept, Appends-nil, Appends-trans, Consumes-nil, Consumes-trans, Keeps-trans}
 use Rattle.std.proofs.lemmas.List.{map-append}
 use Rattle.std.proofs.lemmas.List.Concat.{flat_map-append}
 use Rattle.std.proofs.lemmas.List.Folds.{concat-append}
@@ -130,16 +130,6 @@ finds-one arrived tag reply found =
     }
 
 module _ {S : Type 0} (remaining contents : S → Option (List ℕ)) where
-  pub nothing-sent : (s : Talk S) → Sent remaining contents [] s s
-  nothing-sent s =
-      record {
-        written = Appends-nil (contents s.stream);
-        unread = Keeps-refl (remaining s.stream);
-        tag_is = refl;
-        msize_is = refl;
-        goes_on = refl;
-      }
-
   -- a further request was written
   pub sent-more : (requests : List TMessage) (request : TMessage) (tag : ℕ) (old mid new : Talk S)
       → Sent remaining contents requests old mid
@@ -256,10 +246,6 @@ module _ {S : Type 0} (remaining contents : S → Option (List ℕ)) where
     pub sent : Sent remaining contents requests old new
     pub asked : AskInTurn request size 0 at requests
 
-  pub none-sent : (request : ℕ → TMessage) (size : ℕ → ℕ) (s : Talk S) → HasSent request size 0 0 s s
-  none-sent request size s =
-      record { requests = []; long = refl; sent = nothing-sent s; asked = refl }
-
   -- the request for the next part was written
   pub next-sent : (request : ℕ → TMessage) (size : ℕ → ℕ) (count at tag : ℕ) (next : TMessage)
       (old mid new : Talk S) → HasSent request size count at old mid
@@ -271,18 +257,6 @@ module _ {S : Type 0} (remaining contents : S → Option (List ℕ)) where
         long = omega (arith, before.long, length-append before.requests (next ∷ []));
         sent = sent-more before.requests next tag old mid new before.sent sends tag_is;
         asked = asked-more request size 0 at before.requests next before.asked is some;
-      }
-
-  -- so many frames were read
-  pub none-arrived : (s : Talk S) → Arrives remaining contents [] s s
-  none-arrived s =
-      record {
-        read = Consumes-nil (remaining s.stream);
-        sizes = All-nil HasSize;
-        unwritten = Keeps-refl (contents s.stream);
-        tag_is = refl;
-        msize_is = refl;
-        goes_on = refl;
       }
 
   -- a further frame was read

@@ -1,15 +1,11 @@
 -- A path that is walked piece by piece.
 use Rattle.std.proofs.Common.{◌≡◌, ℕ, ◌+◌, ◌-◌, ◌≤◌, ◌∙◌, List, [], ◌∷◌, ◌++◌, Option, ap, append-nil, append_assoc, arith}
-use Rattle.std.proofs.Common.{drop, length, map, refl, subst, sym, take}
+use Rattle.std.proofs.Common.{drop, map, refl, subst, sym, take}
 use Rattle.std.proofs.Math.Seq.{take-add}
 use Rattle.std.proofs.lemmas.List.{map-append}
 use Rattle.std.specs.List.{flat_map}
-use Rattle.p9_wire.specs.Message.{Twalk}
-use Rattle.p9_base.specs.declared.qid.Qid.{Qid}
 use Rattle.p9_client.specs.Files.{WalksOn, WalksPath, WalksPiece}
-use Rattle.p9_client.specs.Kinds.{IsWalked}
-use Rattle.p9_client.specs.Reply.{IsReply}
-use Rattle.p9_client.specs.Session.{Asks, Gets, Talk}
+use Rattle.p9_client.specs.Session.{Talk}
 
 joined : (pieces : List (List (List ℕ))) (piece : List (List ℕ))
     → flat_map (λ p. p) (pieces ++ piece ∷ []) ≡ flat_map (λ p. p) pieces ++ piece
@@ -35,22 +31,6 @@ module _ {S : Type 0} (remaining contents : S → Option (List ℕ)) where
       (new, subst (λ (s : Talk S). WalksPiece remaining contents fid fid piece s new) same more, refl)
   walks-more fid (first ∷ pieces) piece old mid new walks more =
       (walks.0, walks.1, walks-more fid pieces piece walks.0 mid new walks.2 more)
-
-  -- one walk
-  pub piece-walked : (fid newfid : ℕ) (names asked : List (List ℕ)) (qids : List Qid)
-      (old new : Talk S)
-      → Gets remaining contents (Twalk fid newfid asked) old.tag (IsWalked (length asked)) old new qids
-      → asked ≡ names → length names ≤ 16 → length names ≤ length qids
-      → WalksPiece remaining contents fid newfid names old new
-  piece-walked fid newfid names asked qids old new gets is few enough =
-      record {
-        few = few;
-        asked = subst (λ (ns : List (List ℕ)). Asks remaining contents
-            (Twalk fid newfid ns) old.tag old new) is gets.asked;
-        qids = qids;
-        answer = subst (IsReply new.reply old.tag) gets.answer.2.is gets.answer.1;
-        whole = omega (arith, gets.answer.2.within, ap length is, enough);
-      }
 
   -- the first piece
   pub path-begun : (fid newfid : ℕ) (path : List (List ℕ)) (old new : Talk S)

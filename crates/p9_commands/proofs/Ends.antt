@@ -6,8 +6,9 @@ use Rattle.p9_base.specs.Results.{and_then}
 use Rattle.p9_cert.specs.declared.gap.Gap.{Gap}
 use Rattle.p9_nsline.specs.Space.{Report}
 use Rattle.p9_commands.specs.Command.{CommandEnds, Printed, Works, Writes, admitted, gap_against}
+use Rattle.p9_play.specs.Script.{IsUnplayed}
 use Rattle.p9_prepared.specs.Prepared.{IsReported, Prepared, Rejected, prepared_of, rejected_text}
-use Rattle.p9_prepared.specs.Refusal.{IsUnverified, ReportsStop, refusal_line}
+use Rattle.p9_prepared.specs.Refusal.{ReportsStop, refusal_line}
 use Rattle.p9_prepared.specs.Report.{reports_text}
 use Rattle.p9_commands.specs.declared.command.Command.{Command}
 use Rattle.p9_commands.specs.declared.command.Command.TheVariants.{Play}
@@ -91,8 +92,8 @@ silent-works command seen prepared is p (Err error) same writes = tt
 
 -- a script is not played with a certificate that has a gap
 pub unplayed : (prepared : Prepared) (gap : Option Gap) (p : Printed) (stop : Stop Refusal)
-    → IsUnverified gap stop → ReportsStop stop p.err_before p.err → p.out ≡ p.out_before
+    → IsUnplayed gap p.out_before p.out stop → ReportsStop stop p.err_before p.err
     → Works Play prepared gap 1 p
-unplayed prepared gap p NoMemory is reported same = absurd reported
-unplayed prepared gap p (Refused refusal) is reported same =
-    rw is.1 (refl, reported ∙ ap (λ r. p.err_before ++ refusal_line r) is.2, same)
+unplayed prepared gap p NoMemory is reported = absurd reported
+unplayed prepared gap p (Refused refusal) is reported =
+    rw is.0.1 (refl, reported ∙ ap (λ r. p.err_before ++ refusal_line r) is.0.2, is.1)

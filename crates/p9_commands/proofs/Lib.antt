@@ -1,9 +1,4 @@
-mod Plays
 mod Prints
-mod Machines
 mod Judgements
-mod Guarding
 mod Ends
 mod Offers
-mod Alikes
-mod Chosen

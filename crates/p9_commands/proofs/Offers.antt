@@ -5,7 +5,7 @@ use Rattle.p9_base.specs.Results.{and_then}
 use Rattle.p9_guard.specs.Guard.{Guarded}
 use Rattle.p9_commands.proofs.Ends.{joined, moved}
 use Rattle.p9_commands.specs.Offer.{Offer, Serves, offer_in}
-use Rattle.p9_commands.specs.Guards.{guard_in}
+use Rattle.p9_play.specs.Guards.{guard_in}
 use Rattle.p9_prepared.specs.Prepared.{Prepared, Rejected, with_reports}
 use Rattle.p9_prepared.specs.Refusal.{IsStop, ReportsStop}
 use Rattle.p9_prepared.specs.Report.{reports_text}

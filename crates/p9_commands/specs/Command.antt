@@ -6,8 +6,8 @@ use Rattle.p9_base.specs.Results.{and_then}
 use Rattle.p9_cert.specs.declared.gap.Gap.{Gap}
 use Rattle.p9_commands.specs.Judgement.{IsPrinted, SaysNo, SaysYes, verified_status, verified_text}
 use Rattle.p9_commands.specs.Listing.{table_text}
-use Rattle.p9_commands.specs.Guards.{exported}
-use Rattle.p9_commands.specs.Play.{PlaysAll}
+use Rattle.p9_play.specs.Guards.{exported}
+use Rattle.p9_play.specs.Play.{PlaysAll}
 use Rattle.p9_prepared.specs.Prepared.{Prepared, Rejected, gap_in, prepared_of, rejected_text}
 use Rattle.p9_prepared.specs.Refusal.{refusal_line}
 use Rattle.p9_prepared.specs.Report.{reports_text}

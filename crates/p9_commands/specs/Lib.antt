@@ -1,8 +1,5 @@
-pub mod Play
 pub mod Listing
 pub mod Judgement
-pub mod Guards
 pub mod Word
 pub mod Command
 pub mod Offer
-pub mod Laws

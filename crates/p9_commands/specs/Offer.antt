@@ -3,7 +3,7 @@ use Rattle.std.specs.Prelude.{◌≡◌, ℕ, List, ◌++◌, Option, Some, None
 use Rattle.p9_base.specs.Results.{and_then}
 use Rattle.p9_guard.specs.Guard.{Guarded}
 use Rattle.p9_nsline.specs.Space.{Report}
-use Rattle.p9_commands.specs.Guards.{guard_in}
+use Rattle.p9_play.specs.Guards.{guard_in}
 use Rattle.p9_prepared.specs.Prepared.{Prepared, Rejected, prepared_of, rejected_text}
 use Rattle.p9_prepared.specs.Prepared.{with_reports}
 use Rattle.p9_prepared.specs.Report.{reports_text}

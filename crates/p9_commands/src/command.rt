@@ -5,12 +5,11 @@ ghost use Rattle.p9_commands.specs.Command.{CommandEnds, IsUnchanged, WordEnds, 
 ghost use Rattle.p9_commands.specs.Command.{asked, gap_against, needs_of, printed};
 ghost use Rattle.p9_prepared.specs.Prepared.{gap_in};
 
-use crate::guards::{export, guard_over};
 use crate::judgement::{check, print_verified};
 use crate::listing::list;
-use crate::play::play_events;
 use p9_base::NoMemory;
 use p9_index::IndexTree;
+use p9_play::play_script;
 use p9_prepared::status::{BAD_COMMAND_LINE, DONE, REFUSED};
 use p9_prepared::{Needs, Prepared, prepare_and_report, print_stop};
 use p9_tree::Tree;
@@ -212,7 +211,7 @@ fn work<T: Tree>(
     }
 }
 
-// Plays the script, on a guard where there is a certificate. A gap of that is reported.
+// Plays the script. A gap of its certificate is reported.
 fn play<T: Tree>(
     prepared: Prepared<T>,
     out: &mut Vec<u8, T::Alloc>,
@@ -221,29 +220,9 @@ fn play<T: Tree>(
     ensures { IfOk result (λ status. Works Command.Play prepared (gap_in prepared) status
         (printed out.old out.new err.old err.new)) }
 {
-    let Prepared {
-        space,
-        certificate,
-        events,
-    } = prepared;
-    let Some(certificate) = certificate else {
-        let mut export = export(space);
-        let played = play_events(&mut export, events.as_slice(), out);
-        drop(export);
-        drop(events);
-        played?;
-        return Ok(DONE);
-    };
-    match guard_over(space, certificate) {
-        Ok(mut guard) => {
-            let played = play_events(&mut guard, events.as_slice(), out);
-            drop(guard);
-            drop(events);
-            played?;
-            Ok(DONE)
-        }
+    match play_script(prepared, out) {
+        Ok(()) => Ok(DONE),
         Err(stop) => {
-            drop(events);
             print_stop(stop, err)?;
             Ok(REFUSED)
         }

@@ -4,15 +4,9 @@
 #![tactic(auto, unfolding(p9_base::specs::Results::need))]
 
 mod command;
-mod guards;
 mod judgement;
-pub mod laws;
-mod line;
 mod listing;
-mod machine;
 mod offer;
-mod play;
 
 pub use command::{BadCommandLine, Command, run, run_command, run_command_over};
-pub use guards::guard_of;
 pub use offer::served_guard;

@@ -3,10 +3,10 @@
 ghost use Rattle.std.specs.Prelude.{◌≡◌, IfOk, OnErr};
 ghost use Rattle.p9_commands.specs.Offer.{Serves, offer_of};
 
-use crate::guards::guard_of;
 use p9_base::NoMemory;
 use p9_guard::Guard;
 use p9_index::IndexTree;
+use p9_play::guard_of;
 use p9_prepared::{Needs, prepare_and_report, print_stop};
 use std::alloc::Allocator;
 

@@ -59,9 +59,6 @@ module _ (state : State) (name : ℕ) (forest : List Server) (rows : List Sessio
   outcome answer changes new m refused is forest_is rows_are unmarked written =
       rw (unmarked, is, forest_is, rows_are) (record { state_is = refl; bytes_are = written })
 
-  same_rows : changed_session name session state.sessions ≡ state.sessions
-  same_rows = set_value-same (is_at (nat_cmp name)) state.sessions session there
-
   -- a failed allocation
   without_memory : (answer : Answer) (refused : Bool) → forest ≡ state.forest
       → rows ≡ state.sessions → refused ≡ true → frame_may_fail frame answer ≡ true

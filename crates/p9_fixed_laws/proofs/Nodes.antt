@@ -1,6 +1,6 @@
 -- What a listed user finds at a member that is fixed, in a forest that is the sealed one apart from
 -- times of last access.
-use Rattle.std.proofs.Common.{◌≡◌, ◌∙◌, ℕ, Bool, true, false, List, Option, Some, None}
+use Rattle.std.proofs.Common.{◌≡◌, ◌∙◌, ℕ, true, false, List, Option, Some, None}
 use Rattle.std.proofs.Common.{refl, sym, ap}
 use Rattle.std.specs.Option.{option_map_or}
 use Rattle.std.proofs.lemmas.Bool.{or_parts}
@@ -44,9 +44,6 @@ pub record Scene : Type 0 where
   pub same : all_unread forest ≡ all_unread sealed.forest
 
 module _ (scene : Scene) where
-  abbrev alterable : Node → Bool
-  alterable n = is_alterable scene.setting.users scene.setting.groups n
-
   -- what is known of the node
   pub record IsStill (at : NodeRef) (n : Node) : Type 0 where
     pub unaltered : is_alterable scene.setting.users scene.setting.groups n ≡ false

@@ -44,19 +44,6 @@ one-found : (name : ℕ) (o : Option Session) → session_at name (one_session n
 one-found name None = refl
 one-found name (Some session) = rw (at_self name) refl
 
--- the events of a session can happen, where all of them can
-events-can : (name : ℕ) (events : List Marked) → AllByRecursion (λ event. IsEvent event.0) events
-    → AllByRecursion (λ event. IsEvent event.0) (events_of name events)
-events-can name [] can = tt
-events-can name (event ∷ events) can =
-    go (is_of name event.0) refl (events-can name events can.1)
-  where
-    go : (b : Bool) → is_of name event.0 ≡ b
-        → AllByRecursion (λ e. IsEvent e.0) (events_of name events)
-        → AllByRecursion (λ e. IsEvent e.0) (events_of name (event ∷ events))
-    go true e later = rw e (can.0, later)
-    go false e later = rw e later
-
 -- without the other sessions a fixed state is one
 alone-fixed : (sealed : Sealed) (state : State) (name : ℕ) → IsFixedState sealed state
     → IsFixedState sealed (alone name state)

@@ -42,13 +42,6 @@ some_grant false false false false true x any all = let b : false ≡ true = all
 some_grant false false false false false true any all = let b : false ≡ true = all in cc
 some_grant false false false false false false any all = let b : false ≡ true = any in cc
 
-one_read : (g h k : Bool) → g ≡ true → ((g || false) && (h || true) && (k || true)) ≡ true
-one_read true true true e = refl
-one_read true true false e = refl
-one_read true false true e = refl
-one_read true false false e = refl
-one_read false h k e = let b : false ≡ true = e in cc
-
 module _ (p : Permissions) (owner member : Bool) where
   abbrev gr : Bool
   gr = has_right (λ r. r.read) p owner member

@@ -36,10 +36,6 @@ pub entries_total : IsTotalOrder entry_cmp
 entries_total =
     then_total (on_total (λ e. e.parent) nat_cmp_total) (on_total (λ e. e.name) nat_list_cmp_total)
 
-pub children_total : IsTotalOrder child_cmp
-children_total =
-    then_total (on_total (λ c. c.dir) nat_cmp_total) (on_total (λ c. c.number) nat_cmp_total)
-
 -- keys that are at one place are one
 pub equal_by_test : {K : Type 0} (R : K → K → Ordering) → CmpEqualImpliesEq R → (k q : K)
     → is_at (R k) q ≡ true → k ≡ q

@@ -21,11 +21,11 @@ use Rattle.p9_guard_laws.proofs.Begins.{alike_verified}
 use Rattle.p9_guard.proofs.Sentences.{starts-guarded}
 use Rattle.p9_prepared.specs.Bundle.{Texts, bundle_of}
 use Rattle.p9_commands.specs.Command.{CommandEnds, Printed, WordEnds, asked, needs_of}
-use Rattle.p9_commands.specs.Laws.{AlikeWorldsPlayAlike}
-use Rattle.p9_commands.specs.Guards.{exported}
+use Rattle.p9_play.specs.Laws.{AlikeWorldsPlayAlike}
+use Rattle.p9_play.specs.Guards.{exported}
 use Rattle.p9_prepared.specs.NameSpace.{NameSpace, environment_of, gap_over, name_space}
 use Rattle.p9_prepared.specs.NameSpace.{or_bad_operation, space_in, space_over, world_in}
-use Rattle.p9_commands.specs.Play.{play_text}
+use Rattle.p9_play.specs.Play.{play_text}
 use Rattle.p9_prepared.specs.Prepared.{Prepared, certificate_in, gap_in, opened, prepared_of}
 use Rattle.p9_prepared.specs.Prepared.{rest_in, script_in, with_reports}
 use Rattle.p9_prepared.specs.Refusal.{or_refused}

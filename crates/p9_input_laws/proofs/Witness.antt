@@ -38,8 +38,8 @@ use Rattle.p9_step.specs.Step.{Marked, step}
 use Rattle.p9_guard.specs.Marks.{are_permitted}
 use Rattle.p9_guard.specs.Sentence.{CanHappen}
 use Rattle.p9_guard.specs.Served.{served}
-use Rattle.p9_commands.specs.Play.{play_text}
-use Rattle.p9_commands.specs.Guards.{exported}
+use Rattle.p9_play.specs.Play.{play_text}
+use Rattle.p9_play.specs.Guards.{exported}
 use Rattle.p9_prepared.specs.NameSpace.{gap_over}
 use Rattle.p9_prepared.specs.Prepared.{Prepared, prepared_of}
 use Rattle.p9_prepared.specs.declared.prepared.Needs.TheVariants.{Nothing}

@@ -8,9 +8,9 @@ use Rattle.p9_step.specs.Event.{IsEvent}
 use Rattle.p9_guard.specs.Sentence.{IsWellFormed}
 use Rattle.p9_guard_laws.specs.Alike.{AreAlike, AreMembersInBoth}
 use Rattle.p9_commands.specs.Command.{Printed, WordEnds, needs_of}
-use Rattle.p9_commands.specs.Guards.{exported}
+use Rattle.p9_play.specs.Guards.{exported}
 use Rattle.p9_prepared.specs.NameSpace.{gap_over}
-use Rattle.p9_commands.specs.Play.{play_text}
+use Rattle.p9_play.specs.Play.{play_text}
 use Rattle.p9_prepared.specs.Prepared.{Prepared, prepared_of}
 use Rattle.p9_commands.specs.declared.command.Command.TheVariants.{Play}
 use Rattle.p9_prepared.specs.declared.prepared.Needs.{Needs}

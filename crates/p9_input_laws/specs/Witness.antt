@@ -5,9 +5,9 @@ use Rattle.p9_base.specs.declared.node_ref.NodeRef.{NodeRef}
 use Rattle.p9_step.specs.Step.{Marked}
 use Rattle.p9_guard.specs.Served.{served}
 use Rattle.p9_commands.specs.Command.{needs_of}
-use Rattle.p9_commands.specs.Guards.{exported}
+use Rattle.p9_play.specs.Guards.{exported}
 use Rattle.p9_prepared.specs.NameSpace.{gap_over}
-use Rattle.p9_commands.specs.Play.{play_text}
+use Rattle.p9_play.specs.Play.{play_text}
 use Rattle.p9_prepared.specs.Prepared.{Prepared, prepared_of}
 use Rattle.p9_commands.specs.declared.command.Command.TheVariants.{Play}
 use Rattle.p9_input_laws.specs.Laws.{MeetThePremises}

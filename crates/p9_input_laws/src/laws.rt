@@ -8,7 +8,7 @@ ghost use Rattle.p9_input_laws.specs.NeverThere.{RunsAreAsIfNeverThere, WorldsAr
 ghost use Rattle.p9_input_laws.specs.Witness.{AWorldIsOtherWithoutInsides};
 ghost use Rattle.p9_input_laws.specs.Witness.{TwoLivesMeetThePremises, TwoWorldsMeetThePremises};
 
-use p9_commands::laws::alike_worlds_play_alike;
+use p9_play::laws::alike_worlds_play_alike;
 
 /// The world and the mount table of an input that is prepared are well-formed. The table names only
 /// nodes that were made. Each event of the script can happen. Nothing is asked of the input's bytes.

@@ -1,5 +1,5 @@
 -- What look-ups find, and what is barred, in forests whose nodes are ordered.
-use Rattle.std.proofs.Common.{◌≡◌, ℕ, ◌<◌, Bool, true, false, eqb, ◌||◌, List, ◌⊎◌, Option, Some}
+use Rattle.std.proofs.Common.{◌≡◌, ℕ, ◌<◌, Bool, true, false, eqb, ◌||◌, List, Option, Some}
 use Rattle.std.proofs.Common.{None, refl, sym, ap, ◌∙◌, arith, All}
 use Rattle.std.specs.Prelude.{find, option_and_then}
 use Rattle.std.specs.Option.{option_map_or}
@@ -12,7 +12,7 @@ use Rattle.p9_tree.specs.Inside.{is_barred, is_hidden, is_inside, hidden_on}
 use Rattle.p9_tree.proofs.Lookups.{All-node_at, node_at-found, number-node_at}
 use Rattle.p9_inside.proofs.Pass.{IsOrdered, barred-is_among}
 use Rattle.p9_inside.proofs.Forests.{inside_by_barred_parent, server_below, server_ordered}
-use Rattle.p9_inside.proofs.Facts.{clash, eq_of, not_true, or_cases}
+use Rattle.p9_inside.proofs.Facts.{clash, eq_of, not_true}
 
 -- numbers rise, parents come before their children, and all lie below the next number
 pub record Ordered (f : List Server) : Type 0 where
@@ -103,9 +103,6 @@ barred_is h f o r =
 module _ (h : List NodeRef) (f : List Server) (o : Ordered f) (r : NodeRef) where
   pub not_barred : is_hidden r h ≡ false → is_inside r h f ≡ false → is_barred r h f ≡ false
   not_barred a b = barred_is h f o r ∙ rw (a, b) refl
-
-  pub barred_cases : is_barred r h f ≡ true → (is_hidden r h ≡ true) ⊎ (is_inside r h f ≡ true)
-  barred_cases b = or_cases (is_hidden r h) (is_inside r h f) (sym (barred_is h f o r) ∙ b)
 
   pub not_hidden : is_barred r h f ≡ false → is_hidden r h ≡ false
   not_hidden b =

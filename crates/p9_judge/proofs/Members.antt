@@ -185,18 +185,6 @@ member_found P (m ∷ ms) all r t = go (same_node m.node r) refl t (member_found
     go true s t later = subst P (same_ref m.node r s) all.0
     go false s t later = later t
 
--- what holds of each node that is among the members holds of all members
-pub all_members : (P : NodeRef → Type 0) (ms : List Member)
-    → ((r : NodeRef) → list_any (λ m. same_node m.node r) ms ≡ true → P r)
-    → AllByRecursion (λ m. P m.node) ms
-all_members P [] h = tt
-all_members P (m ∷ ms) h = (
-  h m.node (or_left (same_node m.node m.node) (list_any (λ n. same_node n.node m.node) ms)
-      (same_self m.node)),
-  all_members P ms (λ r t. h r
-      (or_right (same_node m.node r) (list_any (λ n. same_node n.node r) ms) t)),
-)
-
 module _ (policy : Policy) (f : List Server) where
   -- the first fault of members is that of one of them
   pub fault_found : (ms : List Member) (member : NodeRef) (kind : BreachKind)

@@ -180,25 +180,6 @@ module _ {Z : Type 0} (users : List (List ℕ)) (groups : List GroupRow) (listed
       ∙ (λ i. list_any (λ u. list_any (λ m. same_either m u i) g.members) users)
       ∙ ap (λ o. list_any (λ u. option_map_or (has_member u) o (bytes_eq name u)) users) (sym found)
 
-  -- its leader is the one
-  pub leader-listed : (g : Group) → group_of name groups ≡ Some g
-      → list_any (bytes_eq g.leader) users ≡ list_any (leads groups name) users
-  leader-listed g found =
-      ap (λ o. list_any (λ u. option_map_or (λ x. bytes_eq x.leader u) o (bytes_eq name u)) users)
-      (sym found)
-
-  -- a group that isn't listed has the user of its name
-  pub own-member : group_of name groups ≡ None
-      → list_any (bytes_eq name) users ≡ list_any (is_member groups name) users
-  own-member none =
-      ap (λ o. list_any (λ u. option_map_or (has_member u) o (bytes_eq name u)) users) (sym none)
-
-  pub own-leader : group_of name groups ≡ None
-      → list_any (bytes_eq name) users ≡ list_any (leads groups name) users
-  own-leader none =
-      ap (λ o. list_any (λ u. option_map_or (λ x. bytes_eq x.leader u) o (bytes_eq name u)) users)
-      (sym none)
-
 -- some listed user is of one of the classes, each by itself
 pub some-of-classes : (users : List (List ℕ)) (groups : List GroupRow) (classes : Classes) (n : Node)
     → some_listed users groups (is_of classes n) ≡ has_of_a_class users groups classes n.uid n.gid

@@ -18,8 +18,8 @@ pub(crate) const NEXT: [u8; TAIL] = [1, 0];
 // The gates of a block. Of one that is added to a log only the second is written, and it is written last.
 pub(crate) const OPEN: [u8; 2] = [1, 1];
 
-// From so many bytes on a block makes the file longer by itself. Below, the file is made longer ahead of it, by up to twice as
-// many zeros: a system keeps large pieces of a file at less cost than many small ones.
+// Where the file lacks at most so many bytes for a block, it is made longer ahead of the block, by up to twice as many zeros: a
+// system keeps large pieces of a file at less cost than many small ones. A block for which it lacks more makes it longer by itself.
 pub(crate) const AHEAD: usize = 1 << 16;
 
 // What is written ahead of the blocks of a log.

@@ -8,8 +8,8 @@ use crate::device::{Device, DeviceError};
 use crate::layout::{AHEAD, ZEROS};
 
 /// Makes a file of so many bytes longer, where it has fewer than are wanted, and returns how many it
-/// has. Zeros are written up to a multiple of [`AHEAD`]. Where more than that is missing, nothing is
-/// written, since what is written then is long by itself.
+/// has. Zeros are written up to a multiple of [`AHEAD`]. Where more than [`AHEAD`] bytes are missing,
+/// nothing is written, since what is written next is long by itself.
 pub(crate) fn make_room<D: Device>(
     device: &mut D,
     len: usize,

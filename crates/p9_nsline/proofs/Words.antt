@@ -1,12 +1,12 @@
 -- Lists that are read through a view, as the words of a line are.
-use Rattle.std.proofs.Common.{◌≡◌, ℕ, ◌+◌, ◌-◌, ◌<◌, List, [], ◌++◌}
+use Rattle.std.proofs.Common.{◌≡◌, ℕ, ◌-◌, List, []}
 use Rattle.std.proofs.Common.{Option, Some, None, Result, Ok, Err, Bor, subst, map, length}
-use Rattle.std.proofs.Common.{take, drop, get_or, sym, ap, ◌∙◌, arith, append_assoc}
+use Rattle.std.proofs.Common.{take, drop, sym, ap, ◌∙◌, arith}
 use Rattle.std.proofs.Common.{length-drop, find, string_bytes}
-use Rattle.std.proofs.lemmas.List.{take-map, drop-map, take_all, drop_more}
+use Rattle.std.proofs.lemmas.List.{take-map, drop-map, take_all}
 use Rattle.std.specs.Option.{option_map, option_map_or}
 use Rattle.std.specs.Result.{IfErr, IsErrAnd}
-use Rattle.std.specs.List.{flat_map, prefix_len}
+use Rattle.std.specs.List.{prefix_len}
 use Rattle.std.specs.Str.{bytes_eq}
 use Rattle.std.specs.declared.string.String.{String}
 use Rattle.p9_base.specs.Variable.{variables_of}
@@ -49,15 +49,6 @@ flagged_form form words n said result count flags is =
     is
     ∙ ap (λ s. form s (texts (take (length words - n) (drop n words))))
     (flags ∙ ap flags_of front) ∙ ap (form (flags_of (leading_flags (texts words)))) behind
-
--- one piece more is written, and the rest is left
-pub written_more : (f : List ℕ → List ℕ) (pieces : List (Bor (List ℕ))) (i : ℕ) (d : Bor (List ℕ))
-    (written : List ℕ) → i < length pieces →
-    (written ++ f (get_or pieces i d).now) ++ flat_map f (texts (drop (i + 1) pieces)) ≡ written
-    ++ flat_map f (texts (drop i pieces))
-written_more f pieces i d written within =
-    append_assoc written (f (get_or pieces i d).now) (flat_map f (texts (drop (i + 1) pieces)))
-    ∙ ap (λ rest. written ++ flat_map f (texts rest)) (sym (drop_more pieces i d within))
 
 -- what holds of the only error there is
 pub IfErr-same : {T E : Type 0} (r : Result T E) (x : E) (P : E → Type 0) → IsErrAnd r (λ e. e ≡ x)

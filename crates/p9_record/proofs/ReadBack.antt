@@ -492,6 +492,3 @@ forest_edit-sound bytes x fits e =
     subst (λ (edit : ForestEdit). (bytes ≡ forest_spelling edit ++ x.1) × FitsForestEdit edit) t.1
     (spelled, t.3))
     (λ none. absurd cc)) k.2
-
-pub forest_edit-codes : Codes forest_spelling FitsForestEdit forest_edit_at
-forest_edit-codes = record { sound = forest_edit-sound; complete = forest_edit-complete }

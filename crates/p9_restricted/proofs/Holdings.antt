@@ -1,5 +1,5 @@
 -- Bytes that are held, and what is left to give.
-use Rattle.std.proofs.Common.{◌≡◌, ℕ, zero, suc, ◌+◌, ◌-◌, ◌≤◌, ◌<◌, List, [], ◌++◌, Option, None, Some}
+use Rattle.std.proofs.Common.{◌≡◌, ℕ, zero, suc, ◌+◌, ◌-◌, ◌≤◌, List, [], ◌++◌, Option, None, Some}
 use Rattle.std.proofs.Common.{Result, Ok, Err, IfOk}
 use Rattle.std.proofs.Common.{length, take, drop, min, refl, ap, sym, ◌∙◌, arith, subst}
 use Rattle.std.proofs.lemmas.List.{append_assoc, drop-append-le, drop-drop, drop-take}
@@ -13,7 +13,7 @@ use borrow.Rule.Slice.PartMut.{post_of, put_mid}
 use Rattle.p9_restricted.specs.declared.passing.Place.{Place}
 use Rattle.p9_restricted.specs.declared.passing.Place.TheVariants.{Before, Lost}
 use Rattle.p9_restricted.specs.Masked.{Gate, Passes, masked, masked_from, masked_within, onward}
-use Rattle.p9_restricted.specs.Stream.{Gave, Gives, Holding, Over, ReadGave, left_over, nothing_held}
+use Rattle.p9_restricted.specs.Stream.{Gave, Gives, Holding, Over, left_over, nothing_held}
 use Rattle.p9_restricted.specs.Stream.{to_give}
 
 -- Parts of the buffer.
@@ -140,11 +140,6 @@ passes_held g h bytes middle old from to count ordered within same passes =
 
 -- No byte.
 
-none_given : (a b : Option (List ℕ)) → Consumes a b [] → Keeps a b
-none_given None b consumed = tt
-none_given (Some xs) None consumed = absurd consumed
-none_given (Some xs) (Some ys) consumed = sym consumed
-
 none_consumed : (a b : Option (List ℕ)) → Keeps a b → Consumes a b []
 none_consumed None b kept = tt
 none_consumed (Some xs) None kept = absurd kept
@@ -248,16 +243,6 @@ module _ {S : Type 0} (remaining : S → Option (List ℕ)) where
   gave-consumes old new bytes its =
       consumed-by old new (remaining old.stream) (remaining new.stream) its.came bytes its.consumed
       its.front
-
-  -- what a read gave is consumed
-  pub read-consumes : {E : Type 0} (old new : Over S) (result : Result ℕ E) (bytes : List ℕ)
-      → ReadGave remaining old new result bytes
-      → IfOk result (λ count. count ≡ 0 → 0 < length bytes → IsAtEnd (left_over remaining new))
-      → ReadConsumes (left_over remaining old) (left_over remaining new) result bytes
-  read-consumes old new (Ok count) bytes gave end =
-      (gave-consumes old new (take count bytes) gave, end)
-  read-consumes old new (Err error) bytes gave end =
-      none_given (left_over remaining old) (left_over remaining new) (gave-consumes old new [] gave)
 
 -- At the end.
 

@@ -70,23 +70,6 @@ passes_left old new bytes left count at users place counted =
           (sym (onward_at new old.users (Before (left - count)) rest users place));
     }
 
--- bytes where no frame begins any more
-pub passes_lost : (gate : Gate) (bytes : List ℕ) → gate.place ≡ Lost
-    → Passes gate bytes gate bytes (length bytes)
-passes_lost gate bytes at =
-    record {
-      within = omega arith;
-      others = refl;
-      length_is = refl;
-      users_are = refl;
-      front = λ behind.
-          onward_at gate gate.users Lost (bytes ++ behind) refl at
-          ∙ ap (λ xs. xs ++ behind) (sym (take-append-drop (length bytes) bytes))
-          ∙ append_assoc (take (length bytes) bytes) (drop (length bytes) bytes) behind
-          ∙ ap (λ xs. take (length bytes) bytes ++ xs)
-          (sym (onward_at gate gate.users Lost (drop (length bytes) bytes ++ behind) refl at));
-    }
-
 -- bytes that begin with a size of no frame
 pub passes_broken : (old new : Gate) (bytes : List ℕ) → old.place ≡ Before 0
     → front_of old.users bytes ≡ Broken → new.users ≡ old.users → new.place ≡ Lost

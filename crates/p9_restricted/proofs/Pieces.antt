@@ -1,19 +1,10 @@
 -- What a restricted stream gives, from the first piece on.
-use Rattle.std.proofs.Common.{◌≡◌, ℕ, List, [], ◌∷◌, Option, ap, append-nil, refl, subst, sym, ◌∙◌}
-use Rattle.std.proofs.Common.{None, Some}
+use Rattle.std.proofs.Common.{ℕ, List, [], ◌∷◌, Option, ap, append-nil, subst, sym, ◌∙◌}
 use Rattle.std.specs.List.{concat}
-use Rattle.std.specs.Option.{option_map}
 use Rattle.p9_restricted.specs.Laws.{PiecesAreMasked}
 use Rattle.p9_restricted.specs.Masked.{masked}
-use Rattle.p9_restricted.specs.Stream.{Gave, GaveEach, Over, left_over, new_over, to_give}
+use Rattle.p9_restricted.specs.Stream.{Gave, GaveEach, Over, new_over, to_give}
 use Rattle.p9_restricted.proofs.Holdings.{gave-then, gave_none}
-
--- the bytes that are left, where nothing was read
-pub left-new : {S : Type 0} (remaining : S → Option (List ℕ)) (stream : S)
-    (users : List (List ℕ)) (r : Option (List ℕ)) → remaining stream ≡ r
-    → left_over remaining (new_over stream users) ≡ option_map (masked users) r
-left-new remaining stream users None e = rw e refl
-left-new remaining stream users (Some xs) e = rw e refl
 
 -- several pieces are given as one
 pub each-joined : {S : Type 0} (remaining : S → Option (List ℕ)) (pieces : List (List ℕ))

@@ -15,7 +15,7 @@ use Rattle.p9_guard.proofs.Sentences.{starts-guarded}
 use Rattle.p9_guard_laws.specs.Alike.{AreAlike}
 use Rattle.p9_guard_laws.proofs.Begins.{alike_verified}
 use Rattle.p9_clients.specs.Serving.{in_state}
-use Rattle.p9_commands.specs.Guards.{exported, guard_over, guarded}
+use Rattle.p9_play.specs.Guards.{exported, guard_over, guarded}
 use Rattle.p9_prepared.specs.NameSpace.{gap_over}
 use Rattle.p9_commands.specs.Offer.{Serves, offer_in, offer_of}
 use Rattle.p9_prepared.specs.Prepared.{Prepared, Rejected, with_reports}

@@ -1,7 +1,7 @@
 -- What passes a test in parts of lists, and in entries that are put in or taken out.
 use Rattle.std.proofs.Common.{◌≡◌, ℕ, zero, suc, Bool, true, false, cond, List, [], ◌∷◌, ◌++◌, Some}
 use Rattle.std.proofs.Common.{None, take, drop, remove, refl, sym, ap, ◌∙◌}
-use Rattle.std.specs.Prelude.{◌&&◌, slice_get, slice_index_or}
+use Rattle.std.specs.Prelude.{◌&&◌, slice_index_or}
 use Rattle.std.specs.List.{list_all}
 use Rattle.std.specs.Map.{lookup, remove_entry}
 use Rattle.std.proofs.lemmas.Bool.{and_from, and_parts}
@@ -41,15 +41,6 @@ module _ {X : Type 0} (p : X → Bool) where
   all-index_or (x ∷ xs) zero d all other = (and_parts (p x) (list_all p xs) all).0
   all-index_or (x ∷ xs) (suc i) d all other =
       all-index_or xs i d (and_parts (p x) (list_all p xs) all).1 other
-
-  pub all-get : (xs : List X) (i : ℕ) (x : X) → list_all p xs ≡ true → slice_get xs i ≡ Some x
-      → p x ≡ true
-  all-get [] i x all found = let none : None ≡ Some x = found in absurd (cc)
-  all-get (y ∷ ys) zero x all found =
-      let is : Some y ≡ Some x = found in let same : y ≡ x = cc in
-      ap p (sym same) ∙ (and_parts (p y) (list_all p ys) all).0
-  all-get (y ∷ ys) (suc i) x all found =
-      all-get ys i x (and_parts (p y) (list_all p ys) all).1 found
 
 module _ {K V : Type 0} (p : K × V → Bool) where
   -- without an entry

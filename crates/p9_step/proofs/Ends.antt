@@ -116,13 +116,6 @@ pub applied-append : (xs ys : List ForestChange) (forest : List Server)
 applied-append [] ys forest = refl
 applied-append (x ∷ xs) ys forest = applied-append xs ys (applied x forest)
 
--- steady changes, one list after another, are steady
-pub steady-append : (forest : List Server) (xs ys : List ForestChange) → AllSteady forest xs
-    → AllSteady (all_applied xs forest) ys → AllSteady forest (xs ++ ys)
-steady-append forest [] ys first second = second
-steady-append forest (x ∷ xs) ys first second =
-    (first.0, steady-append (applied x forest) xs ys first.1 second)
-
 -- to mark a directory is steady
 pub steady-parent_marked : (forest : List Server) (user : List ℕ) (now : ℕ) (at : NodeRef)
     (parent : Option ℕ) → AllSteady forest (parent_marked user now at parent)

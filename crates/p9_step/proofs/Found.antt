@@ -1,7 +1,7 @@
 -- What is found after a change of the forest or of a fid.
 use Rattle.std.proofs.Common.{◌≡◌, ℕ, zero, suc, Bool, true, false, List, [], ◌∷◌, Option, Some}
-use Rattle.std.proofs.Common.{None, IsSome, IsTrue, refl, sym, ap, ◌∙◌, set, arith}
-use Rattle.std.specs.Prelude.{slice_get, unwrap_or}
+use Rattle.std.proofs.Common.{None, IsTrue, refl, ap, ◌∙◌, set, arith}
+use Rattle.std.specs.Prelude.{slice_get}
 use Rattle.std.specs.Option.{option_map_or}
 use Rattle.std.specs.Map.{lookup, set_value}
 use Rattle.std.specs.BTreeMap.{is_at}
@@ -9,13 +9,11 @@ use Rattle.std.specs.Ordering.{nat_cmp}
 use Rattle.std.proofs.lemmas.List.Folds.{find-append}
 use Rattle.std.proofs.lemmas.Bool.Decides.{nat_tests}
 use Rattle.p9_base.specs.declared.node_ref.NodeRef.{NodeRef}
-use Rattle.p9_base.specs.NodeRef.{beside}
 use Rattle.p9_tree.specs.Node.{Node, has_number}
-use Rattle.p9_tree.specs.Server.{Server, WellFormed, added, node_at, with_changed}
-use Rattle.p9_tree.specs.Forest.{IsForest, forest_changed_at, is_dir_of, next_of, no_server}
+use Rattle.p9_tree.specs.Server.{Server, added, node_at, with_changed}
+use Rattle.p9_tree.specs.Forest.{forest_changed_at, is_dir_of}
 use Rattle.p9_tree.specs.Forest.{node_of, server_at, tree_changed_at}
 use Rattle.p9_tree.proofs.Changed.{KeepsPlace, node_at-changed_at}
-use Rattle.p9_tree.proofs.Lookups.{node_at-past}
 use Rattle.p9_fids.specs.Fid.{Fid, FidRow, changed_fid, fid_at}
 
 -- a server that is there can be replaced
@@ -75,24 +73,6 @@ dir_there target forest into = go (node_of target forest) refl
     go None e = let no : false ≡ true = rw e at into in absurd (cc)
     go (Some dir) e = (dir, e)
 
--- a look-up of a node that was just added finds it
-pub node_of-added : (target : NodeRef) (n : Node) (forest : List Server) → IsForest forest
-    → IsTrue (is_dir_of target forest) → n.number ≡ next_of target.server forest
-    → node_of (beside target (next_of target.server forest))
-    (tree_changed_at target.server (λ s. added s n) forest) ≡ Some n
-node_of-added target n forest sound into same =
-    let dir = dir_there target forest into in
-    let there = server_there target forest dir.0 dir.1 in
-    let s : Server = there.0 in
-    let is : server_at target.server forest ≡ s = ap (λ o. unwrap_or o no_server) there.1 in
-    let w : WellFormed s = sound.servers target.server s there.1 in
-    let absent : node_at s.next s.nodes ≡ None = node_at-past s.next s.nodes w.below in
-    let free : node_at (server_at target.server forest).next (server_at target.server forest).nodes
-    ≡ None = rw is absent in
-    ap (λ (t : Server). node_at (next_of target.server forest) t.nodes)
-    (server_at-tree_changed_at target (λ t. added t n) forest dir.0 dir.1)
-    ∙ node_at-added (server_at target.server forest) n free same
-
 module _ {X : Type 0} (test : ℕ → Bool) where
   lookup-set_value : (rows : List (ℕ × X)) (v w : X) → lookup test rows ≡ Some v
       → lookup test (set_value test rows w) ≡ Some w
@@ -106,17 +86,6 @@ module _ {X : Type 0} (test : ℕ → Bool) where
       go false e later =
           let further : lookup test rows ≡ Some v = rw e at found in rw (e, e) (later further)
 
-  set_value-twice : (rows : List (ℕ × X)) (v w : X)
-      → set_value test (set_value test rows v) w ≡ set_value test rows w
-  set_value-twice [] v w = refl
-  set_value-twice (row ∷ rows) v w = go (test row.0) refl (set_value-twice rows v w)
-    where
-      go : (b : Bool) → test row.0 ≡ b
-          → set_value test (set_value test rows v) w ≡ set_value test rows w
-          → set_value test (set_value test (row ∷ rows) v) w ≡ set_value test (row ∷ rows) w
-      go true e later = rw (e, e)
-      go false e later = rw (e, e) (ap (λ r. row ∷ r) later)
-
 -- a fid after a change of it
 fid_at-changed : (fid : ℕ) (f : Fid → Fid) (fids : List FidRow) (v : Fid) → fid_at fid fids ≡ Some v
     → fid_at fid (changed_fid fid f fids) ≡ Some (f v)
@@ -124,31 +93,3 @@ fid_at-changed fid f fids v found =
     ap (λ o. fid_at fid (option_map_or (λ w. set_value (is_at (nat_cmp fid)) fids (f w)) o fids))
     found
     ∙ lookup-set_value (is_at (nat_cmp fid)) fids v (f v) found
-
--- two changes of a fid, one after another, are one
-pub changed_fid-twice : (fid : ℕ) (f g : Fid → Fid) (fids : List FidRow)
-    → changed_fid fid g (changed_fid fid f fids) ≡ changed_fid fid (λ v. g (f v)) fids
-changed_fid-twice fid f g fids = go (fid_at fid fids) refl
-  where
-    go : (o : Option Fid) → fid_at fid fids ≡ o
-        → changed_fid fid g (changed_fid fid f fids) ≡ changed_fid fid (λ v. g (f v)) fids
-    go None e = rw (e, e)
-    go (Some v) e =
-        let again : fid_at fid (changed_fid fid f fids) ≡ Some (f v) =
-        fid_at-changed fid f fids v e in
-        ap (λ o. option_map_or (λ w. set_value (is_at (nat_cmp fid)) (changed_fid fid f fids) (g w))
-        o (changed_fid fid f fids)) again
-        ∙ ap (λ o. set_value (is_at (nat_cmp fid))
-        (option_map_or (λ w. set_value (is_at (nat_cmp fid)) fids (f w)) o fids) (g (f v))) e
-        ∙ set_value-twice (is_at (nat_cmp fid)) fids (f v) (g (f v))
-        ∙ sym (ap (λ o. option_map_or (λ w. set_value (is_at (nat_cmp fid)) fids (g (f w))) o fids)
-        e)
-
--- a fid that is there is there after a change of it
-pub fid_at-still : (fid : ℕ) (f : Fid → Fid) (fids : List FidRow) → IsSome (fid_at fid fids)
-    → IsSome (fid_at fid (changed_fid fid f fids))
-fid_at-still fid f fids there = go (fid_at fid fids) refl
-  where
-    go : (o : Option Fid) → fid_at fid fids ≡ o → IsSome (fid_at fid (changed_fid fid f fids))
-    go None e = let no : false ≡ true = rw e at there in cc
-    go (Some v) e = rw (fid_at-changed fid f fids v e) refl

@@ -1,10 +1,9 @@
 -- A step keeps what is kept of every state.
-use Rattle.std.proofs.Common.{Err, IfSome, List, None, Ok, Option, Result, Some, [], refl}
+use Rattle.std.proofs.Common.{IfSome, List, None, Option, Some, [], refl}
 use Rattle.std.proofs.Common.{true, ℕ, ◌<◌, ◌^◌, ◌≡◌}
 use Rattle.std.specs.BTreeMap.{is_at}
 use Rattle.std.specs.List.Sorted.{IsStrictlySortedBy}
 use Rattle.std.specs.Ordering.{nat_cmp}
-use Rattle.std.specs.Result.{OnErr, OnOk}
 use Rattle.p9_base.proofs.Rising.{rising-insert, rising-remove, rising-set}
 use Rattle.p9_base.proofs.Rows.{each-insert, each-lookup, each-remove, each-set}
 use Rattle.p9_tree.specs.Forest.{IsForest}
@@ -218,13 +217,3 @@ each-session-served setting forest rows name served = go (session_at name rows) 
     go (Some session) e =
         rw e (each-lookup (λ s. IsSession setting forest s) (is_at (nat_cmp name)) rows session
         served.sessions e)
-
--- after an opening, or one for which an allocation failed
-pub served-put : {T E : Type 0} (setting : Setting) (forest : List Server)
-    (rows rows' : List SessionRow) (name : ℕ) (new : Session) (result : Result T E) →
-    IsServed setting forest rows → new ≡ fresh
-    → OnOk result (rows' ≡ with_session name new rows) → OnErr result (rows' ≡ rows)
-    → IsServed setting forest rows'
-served-put setting forest rows rows' name new (Ok x) served is done left =
-    rw (done, is) (served-opened setting forest rows name served)
-served-put setting forest rows rows' name new (Err x) served is done left = rw left served

@@ -61,16 +61,6 @@ all_kept p (x ∷ xs) all =
 
 -- One member.
 
-pub floor-none : (position : ℕ) → IsFloor None position None
-floor-none position member n = refl
-
-pub floor-later : (c : Cursor) (position : ℕ) → c.member < position → IsFloor (Some c) position None
-floor-later c position lt member n = grind (arith, nat_tests)
-
-pub floor-here : (c : Cursor) (position : ℕ) → c.member ≡ position
-    → IsFloor (Some c) position (Some c.number)
-floor-here c position same member n = grind (arith, nat_tests)
-
 -- the entries of a directory, as of the member at the position
 abbrev pub entries_in : List Server → ℕ → NodeRef → List UnionEntry
 entries_in forest position dir = map (entry_at position dir) (children_of dir forest)
@@ -142,16 +132,6 @@ left_reached (Some c) forest who ms position at =
 abbrev Rising : List UnionEntry → Type 0
 Rising [] = ⊤
 Rising (e ∷ es) = All (λ x. is_behind (Some (cursor_of e)) x ≡ true) es × Rising es
-
-Rising-append : (xs ys : List UnionEntry) → Rising xs → Rising ys
-    → All (λ x. All (λ y. is_behind (Some (cursor_of x)) y ≡ true) ys) xs → Rising (xs ++ ys)
-Rising-append [] ys first second apart = second
-Rising-append (x ∷ xs) ys first second apart = (
-  All-append (λ y. is_behind (Some (cursor_of x)) y ≡ true) xs ys first.0
-      (All-head (λ z. All (λ y. is_behind (Some (cursor_of z)) y ≡ true) ys) x xs apart),
-  Rising-append xs ys first.1 second
-      (All-tail (λ z. All (λ y. is_behind (Some (cursor_of z)) y ≡ true) ys) x xs apart),
-)
 
 pub Rising-map : (position : ℕ) (member : NodeRef) (ns : List Node)
     → AllPairs (λ m n. m.number < n.number) ns → Rising (map (entry_at position member) ns)

@@ -7,7 +7,6 @@ use Rattle.std.specs.Prelude.{IfSome, nat_lt, slice_get, filter, nat_le}
 use Rattle.std.specs.Option.{option_map}
 use Rattle.std.specs.List.{flat_map}
 use Rattle.std.proofs.lemmas.List.{append-nil, length-append, length-drop, length-take-le, take_at}
-use Rattle.std.proofs.lemmas.List.{drop_all}
 use Rattle.std.proofs.lemmas.Slice.{take-put_mid_below}
 use borrow.Rule.Slice.PartMut.{put_mid}
 use Rattle.std.proofs.lemmas.Bool.Decides.{nat_tests}
@@ -102,21 +101,6 @@ module _ (forest : List Server) (who : Who) (ms : List Member) (from : Option Cu
     (filter (is_behind cursor) (entries_from forest who position (drop position ms)))) where
   abbrev rest : List ℕ
   rest = take (length buffer - size) (drop size buffer)
-
-  -- no member is left
-  pub members-end : length ms ≤ position
-      → Fills room (left_of forest who from ms) from buffer (record {
-        size = size;
-        cursor = cursor;
-        is_full = false;
-      })
-  members-end end =
-      let none : filter (is_behind cursor) (entries_from forest who position (drop position ms)) ≡ [] =
-      ap (λ l. filter (is_behind cursor) (entries_from forest who position l))
-      (drop_all position ms end) in
-      filled (left_of forest who from ms) from room buffer size cursor [] whole
-      (subst (Filling room (left_of forest who from ms) from buffer size cursor) none filling) false
-      refl refl
 
   module _ (d : Member) (more : Filled) (new : List ℕ) (within : position < length ms)
       (reached : IsAtMost cursor position) (long : length new ≡ length rest)

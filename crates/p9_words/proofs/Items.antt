@@ -8,11 +8,6 @@ use Rattle.p9_base.specs.declared.stop.Stop.{Stop}
 use Rattle.p9_base.specs.declared.stop.Stop.TheVariants.{Refused, NoMemory}
 use Rattle.p9_words.specs.declared.form.Item.{Item}
 
--- after no bytes
-pub put_after-nil : (read : Result (List ℕ × List ℕ) Fault) → put_after [] read ≡ read
-put_after-nil (Ok x) = refl
-put_after-nil (Err e) = refl
-
 -- the first of several items and those after it, put after more bytes
 put_after-first : (before bytes : List ℕ) (next : List ℕ → List ℕ → Result (List ℕ × List ℕ) Fault)
     (read : Result (List ℕ × List ℕ) Fault)

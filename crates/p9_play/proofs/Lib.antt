@@ -1,0 +1,5 @@
+mod Plays
+mod Machines
+mod Guarding
+mod Alikes
+mod Chosen

@@ -1,0 +1,4 @@
+pub mod Play
+pub mod Guards
+pub mod Script
+pub mod Laws
