@@ -1,11 +1,17 @@
 -- The sample world `small`: one server with /a, /a/b and /a/f, which are glenda's.
-use Rattle.std.specs.Prelude.{ℕ, false, List, [], ◌∷◌, Some, codes}
+use Rattle.std.specs.Prelude.{◌==◌, ◌||◌, ℕ, Bool, false, List, [], ◌∷◌, Some, codes}
+use Rattle.std.specs.List.{list_all}
+use Rattle.p9_base.specs.Line.{is_blank}
 use Rattle.p9_base.specs.declared.mode.Kind.TheVariants.{Directory, File}
 use Rattle.p9_base.specs.declared.mode.Mode.{Mode}
 use Rattle.p9_base.specs.Mode.{permissions_of}
 use Rattle.p9_tree.specs.Node.{Node}
 use Rattle.p9_tree.specs.Server.{Server, root_node}
 use Rattle.p9_world.specs.World.{World}
+
+-- an input has nothing but blanks, tabs and newlines
+abbrev pub is_blank_input : List ℕ → Bool
+is_blank_input input = list_all (λ b. is_blank b || b == 10) input
 
 -- rwxr-xr-x
 abbrev pub directory_mode : Mode

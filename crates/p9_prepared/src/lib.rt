@@ -30,3 +30,4 @@ pub use report::print_reports;
 pub use script::{ScriptError, read_script};
 pub use script_faults::{BadEvent, EVENT_EXPECTED, bad_events};
 pub use section::{SECTIONS, Section};
+pub use small::is_blank_input;

@@ -3,11 +3,22 @@
 ghost use Rattle.std.specs.Prelude.{◌≡◌, IfOk, IsTrue, OnOk, codes};
 ghost use Rattle.p9_base.specs.Name.{is_name};
 ghost use Rattle.p9_tree.specs.Server.{CanAdd, added};
-ghost use Rattle.p9_prepared.specs.Small.{directory_mode, file_mode, glendas, small, small_world};
+ghost use Rattle.p9_prepared.specs.Small.{directory_mode, file_mode, glendas, is_blank_input, small};
+ghost use Rattle.p9_prepared.specs.Small.{small_world};
 
 use p9_base::{FileFlags, Groups, Kind, Mode, Name, NoMemory, Permissions, User};
 use p9_tree::{Forest, New, Tree};
 use p9_world::World;
+
+/// Whether an input has nothing but blanks, tabs and newlines. It brings no world, so it reads to the sample
+/// world.
+pub fn is_blank_input(input: &[u8]) -> bool
+    ensures { result ≡ is_blank_input input.now }
+{
+    input
+        .iter()
+        .all(|byte| matches!(byte, b' ' | b'\t' | b'\n'))
+}
 
 /// The world `small`: one server, `main`, with the directories `/a` and `/a/b` and the file `/a/f`,
 /// which are glenda's, and she is the one user.

@@ -18,7 +18,8 @@ use Rattle.p9_seal.specs.declared.error.SealError.TheVariants.{Empty, Refused as
 use Rattle.p9_seal.specs.declared.error.SealError.TheVariants.{Changeable}
 use Rattle.p9_seal.specs.declared.error.SealError.TheVariants.{NoMemory as OutOfMemory}
 use Rattle.p9_seal.specs.Sealing.{IsBundle, IsSealError, IsSealable, IsSealed, IsUnsealed}
-use Rattle.p9_seal.specs.Sealing.{IsWished, is_empty}
+use Rattle.p9_prepared.specs.Small.{is_blank_input}
+use Rattle.p9_seal.specs.Sealing.{IsWished}
 use Rattle.p9_seal.specs.declared.wishes.Wishes.{Wishes}
 use Rattle.p9_seal.specs.Sections.{HasCertificate}
 use Rattle.p9_seal.specs.Text.{sealed_text}
@@ -64,7 +65,7 @@ no-text input utf8 = rw utf8 refl
 
 -- The output, from the name space, the certificate and what is written.
 pub sealed-ok : (input output : List ℕ) (wishes : Wishes) (space : NameSpace) (rows : List NodeRef)
-    → is_empty input ≡ false → is_utf8 input ≡ true → is_utf8 output ≡ true → IsBundle input
+    → is_blank_input input ≡ false → is_utf8 input ≡ true → is_utf8 output ≡ true → IsBundle input
     → space_of input ≡ Ok space → IsWished space wishes rows → IsCertificate rows
     → output ≡ sealed_text input (certificate_text rows) → IsSealed input wishes output
 sealed-ok input output wishes space rows some utf8 utf8_output bundle read wished sound written =

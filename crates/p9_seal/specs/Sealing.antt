@@ -1,8 +1,7 @@
 -- The sealing of an input.
-use Rattle.std.specs.Prelude.{◌≡◌, ◌==◌, ◌||◌, ℕ, Bool, true, false, List, Some, None, Ok, Err}
+use Rattle.std.specs.Prelude.{◌≡◌, ℕ, Bool, true, false, List, Some, None, Ok, Err}
 use Rattle.std.specs.Prelude.{IsTrue}
-use Rattle.std.specs.List.{AllByRecursion, list_all}
-use Rattle.p9_base.specs.Line.{is_blank}
+use Rattle.std.specs.List.{AllByRecursion}
 use Rattle.p9_base.specs.declared.node_ref.NodeRef.{NodeRef}
 use Rattle.p9_cert.specs.Policy.{policy_of}
 use Rattle.p9_cert.specs.Rows.{is_row}
@@ -16,6 +15,7 @@ use Rattle.p9_step.specs.Event.{Event}
 use Rattle.p9_prepared.specs.Bundle.{Texts, bundle_of}
 use Rattle.p9_prepared.specs.NameSpace.{NameSpace, gap_over}
 use Rattle.p9_prepared.specs.Prepared.{prepared_of, space_of}
+use Rattle.p9_prepared.specs.Small.{is_blank_input}
 use Rattle.p9_prepared.specs.declared.prepared.Needs.{Needs}
 use Rattle.p9_seal.specs.Error.{change_against, vacuity_against}
 use Rattle.p9_seal.specs.Sections.{HasCertificate}
@@ -25,10 +25,6 @@ use Rattle.p9_seal.specs.declared.error.SealError.{SealError}
 use Rattle.p9_seal.specs.declared.error.SealError.TheVariants.{Empty, Refused, No, Vacuous}
 use Rattle.p9_seal.specs.declared.error.SealError.TheVariants.{Changeable, NoMemory}
 use Rattle.p9_seal.specs.declared.wishes.Wishes.{Wishes}
-
--- the input has nothing but blanks, tabs and newlines
-abbrev pub is_empty : List ℕ → Bool
-is_empty input = list_all (λ b. is_blank b || b == 10) input
 
 -- What is said of a name space.
 
@@ -68,7 +64,7 @@ pub record IsSealed (input : List ℕ) (wishes : Wishes) (output : List ℕ) : T
   pub space : NameSpace
   pub rows : List NodeRef
   pub events : List Event
-  pub some : is_empty input ≡ false
+  pub some : is_blank_input input ≡ false
   pub read : space_of input ≡ Ok space
   pub wished : IsWished space wishes rows
   pub written : output ≡ sealed_text input (certificate_text rows)
@@ -114,7 +110,7 @@ IsUnsealed space wishes NoMemory = Unit {0}
 
 -- the input is empty, or has a first fault, or there is no such certificate over its name space
 abbrev pub IsSealError : {A : Type 0} → (input : List ℕ) (wishes : Wishes) → SealError A → Type 0
-IsSealError input wishes Empty = is_empty input ≡ true
+IsSealError input wishes Empty = is_blank_input input ≡ true
 IsSealError input wishes (Refused refusal) = space_of input ≡ Err refusal
 IsSealError input wishes (No breach) =
     (space : NameSpace) × (space_of input ≡ Ok space) × IsNo space breach

@@ -7,7 +7,6 @@ ghost use Rattle.p9_cert.specs.Rows.{IsCertificate};
 ghost use Rattle.p9_cert.specs.Text.{certificate_text};
 ghost use Rattle.p9_seal.specs.Error.{vacuity_against};
 ghost use Rattle.p9_seal.specs.Sealing.{IsSealError, IsSealable, IsSealed, IsUnsealed, IsWished, IsYes};
-ghost use Rattle.p9_seal.specs.Sealing.{is_empty};
 ghost use Rattle.p9_seal.specs.Text.{sealed_text};
 
 use crate::error::{SealError, vacuity_against};
@@ -16,7 +15,7 @@ use crate::wishes::{Wishes, change_against};
 use p9_base::NoMemory;
 use p9_cert::{Certificate, write_cert};
 use p9_judge::{Verdict, judge};
-use p9_prepared::{NameSpace, Refusal, name_space_of};
+use p9_prepared::{NameSpace, Refusal, is_blank_input, name_space_of};
 use p9_tree::Tree;
 use std::alloc::Allocator;
 
@@ -46,7 +45,7 @@ pub fn seal<T: Tree>(
     ensures ok { IfOk result (λ output. IsSealed input.now wishes (string_bytes output)) }
     ensures err { IfErr result (IsSealError input.now wishes) }
 {
-    if is_empty(input) {
+    if is_blank_input(input) {
         return Err(SealError::Empty);
     }
     let Ok(text) = str::from_utf8(input) else {
@@ -54,15 +53,6 @@ pub fn seal<T: Tree>(
     };
     let certificate = certificate_of::<T>(alloc, text, wishes)?;
     Ok(sealed(alloc, text, &certificate)?)
-}
-
-// Whether an input has nothing but blanks, tabs and newlines.
-fn is_empty(input: &[u8]) -> bool
-    ensures { result ≡ is_empty input.now }
-{
-    input
-        .iter()
-        .all(|byte| matches!(byte, b' ' | b'\t' | b'\n'))
 }
 
 // The judge's certificate over the name space of an input, if the verdict is a yes as it is wished.

@@ -10,7 +10,7 @@ use p9_explain::explain;
 use p9_folder::{Folder, belongs_to};
 use p9_guard::Guard;
 use p9_play::guard_of;
-use p9_prepared::{Needs, Prepared, path_of, prepare, print_reports};
+use p9_prepared::{Needs, Prepared, is_blank_input, path_of, prepare, print_reports};
 use p9_shell::{Failure, tell};
 use p9_shown::AsShown;
 use p9_tree::Tree;
@@ -159,20 +159,13 @@ fn with_guard<T: KeptTree>(
 // Says why an export can't be served, as `p9_admin explain` does. For a blank file that would be of the sample
 // world of p9.
 fn say_why<T: KeptTree>(rt: &HostRuntime, file: &str, input: &[u8]) -> Failure {
-    if is_blank(input) {
+    if is_blank_input(input) {
         return PROGRAM.refuse(rt, file, &"the file is empty", Failure::Refused);
     }
     match explained::<T>(rt, file, input) {
         Ok(()) => PROGRAM.refuse(rt, file, &"not served", Failure::Refused),
         Err(failure) => failure,
     }
-}
-
-// Whether an input has nothing but blanks, tabs and newlines.
-fn is_blank(input: &[u8]) -> bool {
-    input
-        .iter()
-        .all(|byte| matches!(byte, b' ' | b'\t' | b'\n'))
 }
 
 // Says what is wrong with an export.

@@ -4,7 +4,8 @@ use Rattle.std.specs.String.{string_bytes}
 use Rattle.std.proofs.lemmas.Bool.{false_from_ne_true}
 use Rattle.std.proofs.lemmas.Result.{err_from_is_err_and}
 use Rattle.std.proofs.lemmas.Str.{IsUtf8-from_is_utf8, is_utf8-from_IsUtf8}
-use Rattle.p9_seal.specs.Sealing.{IsSealed, is_empty}
+use Rattle.p9_prepared.specs.Small.{is_blank_input}
+use Rattle.p9_seal.specs.Sealing.{IsSealed}
 use Rattle.p9_seal.proofs.Sealings.{no-text, sealed-ok}
 use Rattle.p9_seal.proofs.sealing.seal.Goals as goal
 
@@ -25,7 +26,7 @@ returns-clause-ok g c =
     subst (λ input. IsSealed input c.args.wishes (string_bytes c.in_ok-sealed.field-0)) same
     (sealed-ok c.in-Ok.text.now (string_bytes c.in_ok-sealed.field-0) c.args.wishes
     c.in_ok-certificate.ensures.ok.space c.in_ok-certificate.certificate
-    (ap is_empty same ∙ sym c.is_empty.ensures ∙ c.if-is_empty.false)
+    (ap is_blank_input same ∙ sym c.is_blank_input.ensures ∙ c.if-is_blank_input.false)
     (subst (λ text. is_utf8 text ≡ true) (sym same)
     (is_utf8-from_IsUtf8 _ c.in-Ok.ensures.cases.1))
     c.in_ok-sealed.ensures.utf8
