@@ -14,6 +14,14 @@ use p9_prepared::print_line;
 use p9_wire::MSIZE_MAX;
 use std::alloc::Allocator;
 
+// A frame of the session of this name, at a reading of the clock.
+#[derive(Clone, Copy)]
+struct Request<'a> {
+    name: u32,
+    frame: &'a [u8],
+    clock: u32,
+}
+
 /// Plays events on a machine, and prints for each request a line, its reply in lower case
 /// hexadecimal, and for each event that doesn't fit the line `skip`.
 ///
@@ -59,15 +67,14 @@ fn play_event<M: Machine, A: Allocator + Copy>(
 {
     match event {
         Event::Open(name) => open(machine, *name, out),
-        Event::Message(name, frame, clock) => answer(
-            machine,
-            *name,
-            frame.as_slice(),
-            *clock,
-            reply,
-            digits,
-            out,
-        ),
+        Event::Message(name, frame, clock) => {
+            let request = Request {
+                name: *name,
+                frame: frame.as_slice(),
+                clock: *clock,
+            };
+            answer(machine, request, reply, digits, out)
+        }
         Event::Close(name, clock) => close(machine, *name, *clock, out),
     }
 }
@@ -92,9 +99,7 @@ fn open<M: Machine, A: Allocator + Copy>(
 // Prints the reply to a frame that fits.
 fn answer<M: Machine, A: Allocator + Copy>(
     machine: &mut M,
-    name: u32,
-    frame: &[u8],
-    clock: u32,
+    request: Request<'_>,
     reply: &mut [u8],
     digits: &mut [u8],
     out: &mut Vec<u8, A>,
@@ -102,9 +107,10 @@ fn answer<M: Machine, A: Allocator + Copy>(
     requires reply { length reply.old ≡ msize_max }
     requires digits { length digits.old ≡ 2 * msize_max }
     ensures { OnOk result
-        (Plays (Message name frame.now clock) (M.state machine.old) (M.state machine.new)
-        out.old.items out.new.items) }
+        (Plays (Message request.name request.frame.now request.clock) (M.state machine.old)
+        (M.state machine.new) out.old.items out.new.items) }
 {
+    let Request { name, frame, clock } = request;
     if !is_frame(frame) {
         return print_line("skip", out);
     }

@@ -63,7 +63,8 @@ pub fn run_serve<R: Net + Clock + AllocGlobal, W: Write, E: Write>(
     }) result }
 {
     let mut timer = MachineTimer { rt };
-    match served(rt, &mut timer, address, rounds, input, out, err) {
+    let stay = Stay { address, rounds };
+    match served(rt, &mut timer, stay, input, out, err) {
         Ok(Some(_)) => DONE,
         Ok(None) => REFUSED,
         Err(error) => report_failure(&error, err),
@@ -107,18 +108,24 @@ pub fn serve_clients<A: Allocator + Copy, L: Listener, C: Timer, E: Write>(
     }
 }
 
+// Where something is served, and for how many rounds.
+#[derive(Clone, Copy)]
+struct Stay {
+    address: SocketAddr,
+    rounds: u64,
+}
+
 // Serves an input at an address for a number of rounds, up to a failure, which is not reported here.
 // Returns the guard as it is left, or nothing where there is nothing to serve.
 fn served<R: Net + AllocGlobal, T: Timer, W: Write, E: Write>(
     rt: &R,
     timer: &mut T,
-    address: SocketAddr,
-    rounds: u64,
+    stay: Stay,
     input: &[u8],
     out: &mut W,
     err: &mut E,
 ) -> io::Result<Option<Guard<IndexTree<Global>>>>
-    ensures ok { IfOk result (GivesBack (offer_of input.now) rounds (record {
+    ensures ok { IfOk result (GivesBack (offer_of input.now) stay.rounds (record {
       out_before = W.contents out.old;
       out = W.contents out.new;
       err_before = E.contents err.old;
@@ -136,7 +143,7 @@ fn served<R: Net + AllocGlobal, T: Timer, W: Write, E: Write>(
     })) }
 {
     match offered(rt.alloc(), input, err)? {
-        Some(guard) => Ok(Some(serve(rt, timer, address, rounds, guard, out)?)),
+        Some(guard) => Ok(Some(serve(rt, timer, stay, guard, out)?)),
         None => Ok(None),
     }
 }
@@ -166,8 +173,7 @@ fn offered<A: Allocator + Copy, E: Write>(
 fn serve<R: Net + AllocGlobal, T: Timer, W: Write>(
     rt: &R,
     timer: &mut T,
-    address: SocketAddr,
-    rounds: u64,
+    stay: Stay,
     guard: Guard<IndexTree<Global>>,
     out: &mut W,
 ) -> io::Result<Guard<IndexTree<Global>>>
@@ -175,13 +181,13 @@ fn serve<R: Net + AllocGlobal, T: Timer, W: Write>(
         × Appends (W.contents out.old) (W.contents out.new) (listening bound)) }
     ensures front { (bound : _)
         × AppendsFront (W.contents out.old) (W.contents out.new) (listening bound) }
-    ensures served { IfOk result (WasServed {S = ClientSocket} untold untold guard rounds
+    ensures served { IfOk result (WasServed {S = ClientSocket} untold untold guard stay.rounds
         (T.readings timer.old) (T.readings timer.new)) }
 {
-    let listener = Sockets::new(rt.alloc(), TcpListener::bind(rt, address)?);
+    let listener = Sockets::new(rt.alloc(), TcpListener::bind(rt, stay.address)?);
     print_address(rt, listener.local_addr()?, out)?;
     free_block(rt.alloc());
-    serve_guard(rt.alloc(), timer, listener, rounds, guard)
+    serve_guard(rt.alloc(), timer, listener, stay.rounds, guard)
 }
 
 // Serves a guard to the clients that come to a listener: runs the rounds, and closes all sessions

@@ -13,13 +13,13 @@ use Rattle.p9_play.proofs.play.answer.Goals as goal
 pub returns-in-Some : goal.returns-in-Some
 returns-in-Some g c =
     let old : State = g.M.Machine.state c.args.machine.now in
-    let fits : is_frame c.args.frame.now ≡ true = sym c.is_frame.ensures ∙ c.if-not-is_frame.false in
-    let live : is_some (session_at c.args.name old.sessions) ≡ true = c.in-Some.ensures.live.0 refl in
-    let event = Message c.args.name c.args.frame.now c.args.clock in
+    let fits : is_frame c.args.request.frame.now ≡ true = sym c.is_frame.ensures ∙ c.if-not-is_frame.false in
+    let live : is_some (session_at c.args.request.name old.sessions) ≡ true = c.in-Some.ensures.live.0 refl in
+    let event = Message c.args.request.name c.args.request.frame.now c.args.request.clock in
     let refused =
-    is_no_memory_reply c.args.frame.now (take c.in-Some.size c.answer.new.reply) in
+    is_no_memory_reply c.args.request.frame.now (take c.in-Some.size c.answer.new.reply) in
     let is : played old event refused ≡ replied (step old event refused) =
-    chosen (is_frame c.args.frame.now) (is_some (session_at c.args.name old.sessions))
+    chosen (is_frame c.args.request.frame.now) (is_some (session_at c.args.request.name old.sessions))
     (replied (step old event refused)) (skipped old) fits live in
     on_ok_weaker c.print_hex.result
     (λ text. record {

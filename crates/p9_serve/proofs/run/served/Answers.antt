@@ -8,7 +8,7 @@ use Rattle.p9_serve.proofs.run.served.Goals as goal
 pub returns-in_err-guard-clause-err : goal.returns-in_err-guard-clause-err
 returns-in_err-guard-clause-err g c =
     on_err c.from_residual.result
-    (cut_short (offer_of c.args.input.now) _ c.args.address c.in_err-guard.ensures.err
+    (cut_short (offer_of c.args.input.now) _ c.args.stay.address c.in_err-guard.ensures.err
     (0, Appends-nil (g.W.Write.contents c.args.out.now)))
 
 pub returns-in_err-serve-in-Some-clause-err : goal.returns-in_err-serve-in-Some-clause-err
