@@ -1,6 +1,6 @@
 //! The script of an input, played over its name space.
 
-ghost use Rattle.std.specs.Prelude.{◌≡◌, ◌×◌, IfErr, None, OnOk};
+ghost use Rattle.std.specs.Prelude.{◌≡◌, IfErr, None, OnOk};
 ghost use Rattle.p9_play.specs.Guards.{exported};
 ghost use Rattle.p9_play.specs.Play.{PlaysAll};
 ghost use Rattle.p9_play.specs.Script.{IsUnplayed};
