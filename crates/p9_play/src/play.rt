@@ -107,8 +107,8 @@ fn answer<M: Machine, A: Allocator + Copy>(
     requires reply { length reply.old ≡ msize_max }
     requires digits { length digits.old ≡ 2 * msize_max }
     ensures { OnOk result
-        (Plays (Message request.name request.frame.now request.clock) (M.state machine.old)
-        (M.state machine.new) out.old.items out.new.items) }
+        (Plays (Message request.entry.name request.entry.frame.now request.entry.clock)
+        (M.state machine.old) (M.state machine.new) out.old.items out.new.items) }
 {
     let Request { name, frame, clock } = request;
     if !is_frame(frame) {
