@@ -12,7 +12,7 @@ use std::alloc::Global;
 use thiserror::Error;
 
 // Why an input can't go on with the trees that are kept in a folder.
-#[derive(Clone, Copy, Error)]
+#[derive(Clone, Copy, Debug, Error)]
 enum NotPresent {
     #[error("{0}")]
     Refused(Refused),
