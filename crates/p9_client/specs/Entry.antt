@@ -2,7 +2,8 @@
 use Rattle.std.specs.Prelude.{◌≡◌, ℕ, List, Option, None, Some}
 use Rattle.std.specs.String.{string_bytes}
 use Rattle.p9_wire.specs.Fields.{FitsStat, StatNumbersFit, stat_bytes}
-use Rattle.p9_wire.specs.Message.{RMessage, Rstat, StatFields}
+use Rattle.p9_wire.specs.Stat.{StatFields}
+use Rattle.p9_wire.specs.Message.{RMessage, Rstat}
 use Rattle.p9_client.specs.declared.entry.Entry.{Entry}
 
 -- the stat that an entry is

@@ -1,7 +1,7 @@
 //! What a server reports of a file, with texts of its own.
 
 ghost use Rattle.std.specs.Prelude.{◌≡◌, IfOk};
-ghost use Rattle.p9_wire.specs.Message.{stat_view};
+ghost use Rattle.p9_wire.specs.Stat.{stat_view};
 ghost use Rattle.p9_client.specs.Entry.{IsEntryOf, IsStat, entry_view};
 ghost use Rattle.p9_client.specs.Reply.{gives_no_more, IsTaken};
 

@@ -3,7 +3,8 @@
 ghost use Rattle.std.specs.Prelude.{◌≡◌, ◌+◌, ◌-◌, ◌<◌, ◌≤◌, ◌^◌, [], false, min, true, IfOk, IsTrue, OnErr, length, take};
 ghost use Rattle.p9_wire.specs.Frame.{msize_max};
 ghost use Rattle.p9_wire.specs.Message.{Rclunk, Rremove, Rwstat, Tattach, Tclunk, Tcreate, Topen};
-ghost use Rattle.p9_wire.specs.Message.{Tread, Tremove, Tstat, Tversion, Twalk, Twrite, Twstat, stat_view};
+ghost use Rattle.p9_wire.specs.Stat.{stat_view};
+ghost use Rattle.p9_wire.specs.Message.{Tread, Tremove, Tstat, Tversion, Twalk, Twrite, Twstat};
 ghost use Rattle.p9_wire.specs.Message.{t_view};
 ghost use Rattle.p9_client.specs.Entry.{IsStat};
 ghost use Rattle.p9_client.specs.Files.{ends_file};

@@ -22,7 +22,7 @@ use Rattle.p9_inside.proofs.Forests.{keeps_child}
 use Rattle.p9_inside.proofs.Facts.{some_same, or_cases}
 use Rattle.p9_inside.proofs.Looks.{parent_not_barred}
 use Rattle.p9_space.specs.Rights.{rules, Who}
-use Rattle.p9_wire.specs.Message.{StatFields}
+use Rattle.p9_wire.specs.Stat.{StatFields}
 use Rattle.p9_fids.specs.Fid.{fid_at}
 use Rattle.p9_step.specs.State.{Session, fid_file, fid_ref, who_of}
 use Rattle.p9_step.specs.ForestChange.{edited, EditNode, Rewrite}

@@ -15,7 +15,8 @@ use Rattle.p9_base.specs.Statement.{statements_of}
 use Rattle.p9_wire.specs.FieldReading.{counted_at, qid_at, several_at, sized_at, stat_fields_at}
 use Rattle.p9_wire.specs.FieldReading.{stat_numbers_at, text_at, times}
 use Rattle.p9_wire.specs.Fields.{number}
-use Rattle.p9_wire.specs.Reading.{header_at, t_attach_at, t_body_at, t_message_of, t_open_at}
+use Rattle.p9_wire.specs.FieldReading.{header_at}
+use Rattle.p9_wire.specs.Reading.{t_attach_at, t_body_at, t_message_of, t_open_at}
 use Rattle.p9_wire.specs.Reading.{t_create_at, t_read_at, t_remove_at, t_version_at, t_walk_at}
 use Rattle.p9_wire.specs.Reading.{t_wstat_at}
 use Rattle.p9_wire.specs.Reply.{r_spelling}

@@ -10,7 +10,8 @@ use Rattle.p9_base.specs.declared.node_ref.NodeRef.{NodeRef}
 use Rattle.p9_base.specs.declared.qid.Qid.{Qid}
 use Rattle.p9_base.specs.Results.{obtain, need, unless}
 use Rattle.p9_tree.specs.Node.{Node}
-use Rattle.p9_wire.specs.Message.{Rwstat, StatFields}
+use Rattle.p9_wire.specs.Stat.{StatFields}
+use Rattle.p9_wire.specs.Message.{Rwstat}
 use Rattle.p9_fids.specs.Fid.{Fid, fid_at}
 use Rattle.p9_tree.specs.Server.{Server}
 use Rattle.p9_step.specs.Answer.{Answer}

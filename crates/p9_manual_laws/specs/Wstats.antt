@@ -2,7 +2,8 @@
 use Rattle.std.specs.Prelude.{◌≡◌, ℕ, ◌-◌, ◌^◌, ◌⊎◌, List, [], Some}
 use Rattle.p9_base.specs.declared.qid.Qid.{Qid}
 use Rattle.p9_tree.specs.Node.{Node}
-use Rattle.p9_wire.specs.Message.{Rwstat, StatFields, Twstat}
+use Rattle.p9_wire.specs.Stat.{StatFields}
+use Rattle.p9_wire.specs.Message.{Rwstat, Twstat}
 use Rattle.p9_fids.specs.Fid.{Fid}
 use Rattle.p9_step.specs.Qid.{stat_of}
 use Rattle.p9_step.specs.State.{Session, State, fid_file, fid_ref}

@@ -13,8 +13,8 @@ ghost use Rattle.p9_record.specs.RecordReading.{put_back_at, remove_at, set_root
 ghost use Rattle.p9_record.specs.RecordReading.{truncate_at, user_at, write_at, wstat_at};
 
 use p9_base::{Mode, Name, Permissions, User};
+use p9_fields::{take_counted, take_text, take_u8, take_u16, take_u32, take_u64};
 use p9_tree::{Change, Entry, ForestChange, New, Saved, TreeChange};
-use p9_wire::fields::{take_counted, take_text, take_u8, take_u16, take_u32, take_u64};
 
 #[tactic(auto, unfolding(crate::specs::RecordReading::name_at))]
 fn take_name(bytes: &[u8]) -> Option<(Name, &[u8])>

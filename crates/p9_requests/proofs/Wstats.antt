@@ -17,7 +17,8 @@ use Rattle.p9_tree.specs.Change.{changed}
 use Rattle.p9_tree.specs.Node.{Node}
 use Rattle.p9_tree.specs.Server.{Server}
 use Rattle.p9_tree.specs.Forest.{forest_changed_at, node_of}
-use Rattle.p9_wire.specs.Message.{Rwstat, StatFields}
+use Rattle.p9_wire.specs.Stat.{StatFields}
+use Rattle.p9_wire.specs.Message.{Rwstat}
 use Rattle.p9_fids.specs.Fid.{Fid, fid_at}
 use Rattle.p9_step.specs.State.{Setting, Session, fid_file, fid_ref}
 use Rattle.p9_step.specs.Answer.{Answer}

@@ -11,7 +11,8 @@ use Rattle.byteorder.specs.Numbers.{little_from-append}
 use Rattle.p9_base.specs.Text.{is_text}
 use Rattle.p9_wire.specs.FieldReading.{◌and_then◌, bytes_at, number_at, text_at}
 use Rattle.p9_wire.specs.Message.{TMessage, Tattach}
-use Rattle.p9_wire.specs.Reading.{header_at, t_attach_at, t_body_at, t_message_of}
+use Rattle.p9_wire.specs.FieldReading.{header_at}
+use Rattle.p9_wire.specs.Reading.{t_attach_at, t_body_at, t_message_of}
 
 -- so many bytes from a place on
 abbrev pub field : ℕ → ℕ → List ℕ → List ℕ

@@ -24,7 +24,8 @@ use Rattle.p9_base.specs.User.{is_listed_user, is_user, user_max}
 use Rattle.p9_wire.specs.FieldReading.{◌and_then◌, Reader, text_at}
 use Rattle.p9_wire.specs.Frame.{header, is_frame, msize_max}
 use Rattle.p9_wire.specs.Message.{TMessage, Tattach}
-use Rattle.p9_wire.specs.Reading.{header_at, t_body_at, t_message_of, t_version_at, t_auth_at}
+use Rattle.p9_wire.specs.FieldReading.{header_at}
+use Rattle.p9_wire.specs.Reading.{t_body_at, t_message_of, t_version_at, t_auth_at}
 use Rattle.p9_wire.specs.Reading.{t_attach_at, t_flush_at, t_walk_at, t_open_at, t_create_at}
 use Rattle.p9_wire.specs.Reading.{t_read_at, t_write_at, t_clunk_at, t_remove_at, t_stat_at}
 use Rattle.p9_wire.specs.Reading.{t_wstat_at}

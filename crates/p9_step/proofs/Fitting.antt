@@ -25,7 +25,8 @@ use Rattle.p9_space.specs.Walk.{step_of}
 use Rattle.p9_space.specs.declared.trail.Step.{Step}
 use Rattle.p9_wire.specs.Fields.{QidNumbersFit}
 use Rattle.p9_wire.specs.Frame.{msize_max}
-use Rattle.p9_wire.specs.Message.{Rcreate, Rread, StatFields}
+use Rattle.p9_wire.specs.Stat.{StatFields}
+use Rattle.p9_wire.specs.Message.{Rcreate, Rread}
 use Rattle.p9_wire.specs.Spelling.{RFits, RNumbersFit, r_len}
 use Rattle.p9_fids.specs.Fid.{Fid}
 use Rattle.p9_step.specs.Answer.{Outcome, is_error}

@@ -14,7 +14,7 @@ use Rattle.p9_tree.specs.Node.{IsTellable, Node, has_number, marked, with_bytes}
 use Rattle.p9_tree.specs.Server.{Server}
 use Rattle.p9_tree.proofs.Renewed.{apart-changed, named, sound-changed}
 use Rattle.p9_wire.specs.FieldReading.{◌then◌}
-use Rattle.p9_wire.specs.Message.{StatFields}
+use Rattle.p9_wire.specs.Stat.{StatFields}
 use Rattle.p9_step.specs.Answer.{Outcome}
 use Rattle.p9_step.specs.ForestChange.{EditNode, Rewrite, applied, edited}
 use Rattle.p9_step.specs.Qid.{stat_of}

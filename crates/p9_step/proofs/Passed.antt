@@ -28,7 +28,8 @@ use Rattle.p9_space.specs.Table.{members_of}
 use Rattle.p9_space.specs.Trail.{here, places_max}
 use Rattle.p9_wire.specs.Frame.{msize_max}
 use Rattle.p9_wire.specs.Message.{Rattach, Rclunk, Ropen, Rread, Rremove, Rstat, Rversion, Rwalk}
-use Rattle.p9_wire.specs.Message.{Rwrite, Rwstat, StatFields}
+use Rattle.p9_wire.specs.Stat.{StatFields}
+use Rattle.p9_wire.specs.Message.{Rwrite, Rwstat}
 use Rattle.p9_fids.specs.Fid.{Fid, fid_at, put_fault}
 use Rattle.p9_fids.specs.declared.opened.Opened.{Opened}
 use Rattle.p9_step.specs.Answer.{Outcome, outcome_of}

@@ -2,7 +2,8 @@
 use Rattle.std.proofs.Common.{Bool, Err, List, Ok, false, inl, inr, refl, subst, sym, true, ℕ, ◌≡◌}
 use Rattle.p9_tree.specs.Server.{Server}
 use Rattle.p9_space.specs.Rights.{may}
-use Rattle.p9_wire.specs.Message.{RMessage, StatFields, TMessage, Tattach, Tauth, Tclunk, Tcreate}
+use Rattle.p9_wire.specs.Stat.{StatFields}
+use Rattle.p9_wire.specs.Message.{RMessage, TMessage, Tattach, Tauth, Tclunk, Tcreate}
 use Rattle.p9_wire.specs.Message.{Tflush, Topen, Tread, Tremove, Tstat, Tversion, Twalk, Twrite}
 use Rattle.p9_wire.specs.Message.{Twstat}
 use Rattle.p9_step.specs.Answer.{Answer, Outcome, is_error}

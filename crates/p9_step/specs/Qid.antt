@@ -11,7 +11,7 @@ use Rattle.p9_tree.specs.Server.{Server}
 use Rattle.p9_space.specs.Place.{file_of, file_ref}
 use Rattle.p9_space.specs.Table.{MountRow}
 use Rattle.p9_wire.specs.Fields.{stat_fixed}
-use Rattle.p9_wire.specs.Message.{StatFields}
+use Rattle.p9_wire.specs.Stat.{StatFields}
 
 -- a file's identity among those of all servers, and its version
 abbrev pub qid_of : NodeRef → Node → Qid

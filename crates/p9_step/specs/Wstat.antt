@@ -21,7 +21,8 @@ use Rattle.p9_tree.specs.Server.{Server}
 use Rattle.p9_tree.specs.Forest.{child_in}
 use Rattle.p9_tree.specs.declared.change.Change.{Change}
 use Rattle.p9_space.specs.Rights.{Who, may, rules, to_write}
-use Rattle.p9_wire.specs.Message.{Rwstat, StatFields}
+use Rattle.p9_wire.specs.Stat.{StatFields}
+use Rattle.p9_wire.specs.Message.{Rwstat}
 use Rattle.p9_fids.specs.Fid.{fid_at}
 use Rattle.p9_step.specs.State.{Setting, Session, fid_file, fid_ref, who_of}
 use Rattle.p9_step.specs.Answer.{Answer}

@@ -4,7 +4,7 @@ ghost use Rattle.std.specs.Prelude.{◌≡◌, ◌+◌, ◌*◌, ◌<◌, ◌≤
 ghost use Rattle.p9_base.specs.Mode.{qid_kind};
 ghost use Rattle.p9_step.specs.Qid.{qid_of, stat_max, stat_of};
 ghost use Rattle.p9_wire.specs.Fields.{FitsStat, stat_len};
-ghost use Rattle.p9_wire.specs.Message.{stat_view};
+ghost use Rattle.p9_wire.specs.Stat.{stat_view};
 
 use p9_base::{Mode, NodeRef, Qid};
 use p9_tree::Node;

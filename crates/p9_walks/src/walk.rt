@@ -8,7 +8,7 @@ ghost use Rattle.p9_space.specs.Table.{MountRow};
 ghost use Rattle.p9_space.specs.Trail.{here, places_max, stepped};
 ghost use Rattle.p9_tree.specs.Forest.{node_of};
 ghost use Rattle.p9_tree.specs.Server.{Server};
-ghost use Rattle.p9_wire.specs.Frame.{elements_max};
+ghost use Rattle.p9_wire.specs.Fields.{elements_max};
 ghost use Rattle.p9_wire.specs.Message.{Rwalk};
 ghost use Rattle.p9_walks.specs.Held.{SessionFits, WalkFits};
 ghost use Rattle.p9_walks.specs.Answers.{Answers, replied};

@@ -8,7 +8,8 @@ use Rattle.p9_wire.specs.Fields.{number}
 use Rattle.p9_wire.specs.Reply.{frame}
 use Rattle.std.specs.Prelude.{IfSome, IfNone}
 use Rattle.p9_wire.specs.FieldReading.{◌and_then◌, Gives, Reader, number_at, ◌then◌, mapped}
-use Rattle.p9_wire.specs.Reading.{header_at, message_at}
+use Rattle.p9_wire.specs.FieldReading.{header_at}
+use Rattle.p9_wire.specs.Reading.{message_at}
 use Rattle.p9_wire.specs.Frame.{IsBytes}
 use Rattle.p9_wire.proofs.Bytes.{IsBytes-back}
 use Rattle.p9_wire.proofs.Lengths.{length-parts, length-frame}

@@ -7,7 +7,8 @@ use Rattle.std.proofs.lemmas.List.{length-append}
 use Rattle.std.proofs.lemmas.List.Sums.{sum_by-cons}
 use Rattle.std.proofs.lemmas.List.Concat.{flat_map-cons}
 use Rattle.p9_base.specs.declared.qid.Qid.{Qid}
-use Rattle.p9_wire.specs.Message.{StatFields, TMessage, Tversion, Tauth, Tattach, Tflush, Twalk}
+use Rattle.p9_wire.specs.Stat.{StatFields}
+use Rattle.p9_wire.specs.Message.{TMessage, Tversion, Tauth, Tattach, Tflush, Twalk}
 use Rattle.p9_wire.specs.Message.{Topen, Tcreate, Tread, Twrite, Tclunk, Tremove, Tstat, Twstat}
 use Rattle.p9_wire.specs.Message.{RMessage, Rversion, Rattach, Rerror, Rflush, Rwalk, Ropen}
 use Rattle.p9_wire.specs.Message.{Rcreate, Rread, Rwrite, Rclunk, Rremove, Rstat, Rwstat}

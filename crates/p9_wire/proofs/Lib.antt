@@ -1,8 +1,6 @@
 pub mod Bytes
-pub mod Texts
 pub mod Lengths
 pub mod Codes
-pub mod Times
 pub mod Framing
 pub mod TGrammar
 pub mod RGrammar

@@ -17,10 +17,6 @@ msize_max = 1048576
 abbrev pub header : ℕ
 header = 7
 
--- the most names of a Twalk, and the most qids of an Rwalk
-abbrev pub elements_max : ℕ
-elements_max = 16
-
 -- one whole frame: as many bytes as its size says, no fewer than a header has, and no more than the
 -- greatest frame has
 abbrev pub is_frame : List ℕ → Bool

@@ -1,9 +1,10 @@
 pub mod Message
-pub mod Fields
 pub mod Reply
 pub mod Spelling
-pub mod FieldReading
 pub mod Reading
 pub mod Writing
 pub mod Frame
 pub mod Laws
+pub use Rattle.p9_fields.specs.Stat
+pub use Rattle.p9_fields.specs.Fields
+pub use Rattle.p9_fields.specs.FieldReading

@@ -1,25 +1,11 @@
 -- What messages say, apart from where their bytes lie.
 use Rattle.std.specs.Prelude.{ℕ, List}
 use Rattle.p9_base.specs.declared.qid.Qid.{Qid}
-use Rattle.p9_wire.specs.declared.message.Stat.{Stat}
+use Rattle.p9_fields.specs.Stat.{StatFields, stat_view}
 use Rattle.p9_wire.specs.declared.message.TMsg.{TMsg}
 use Rattle.p9_wire.specs.declared.message.TMsg.TheVariants as t
 use Rattle.p9_wire.specs.declared.message.RMsg.{RMsg}
 use Rattle.p9_wire.specs.declared.message.RMsg.TheVariants as r
-
--- what is told of a file
-pub record StatFields : Type 0 where
-  pub kind : ℕ
-  pub dev : ℕ
-  pub qid : Qid
-  pub mode : ℕ
-  pub atime : ℕ
-  pub mtime : ℕ
-  pub length : ℕ
-  pub name : List ℕ
-  pub uid : List ℕ
-  pub gid : List ℕ
-  pub muid : List ℕ
 
 -- what a client asks
 pub data TMessage : Type 0 where
@@ -54,22 +40,6 @@ pub data RMessage : Type 0 where
   Rwstat : RMessage
 
 -- the same of the code's types, whose texts and data are slices
-
--- a stat
-abbrev pub stat_view : Stat → StatFields
-stat_view s = record {
-  kind = s.kind;
-  dev = s.dev;
-  qid = s.qid;
-  mode = s.mode;
-  atime = s.atime;
-  mtime = s.mtime;
-  length = s.length;
-  name = s.name.now;
-  uid = s.uid.now;
-  gid = s.gid.now;
-  muid = s.muid.now;
-}
 
 -- a request
 abbrev pub t_view : TMsg → TMessage

@@ -6,14 +6,7 @@ use Rattle.p9_wire.specs.Message.{Rattach, Rerror, Rflush, Rwalk, Ropen, Rcreate
 use Rattle.p9_wire.specs.Message.{Rclunk, Rremove, Rstat, Rwstat}
 use Rattle.p9_wire.specs.FieldReading.{◌and_then◌, Reader, ◌then◌, mapped, nothing_at, number_at}
 use Rattle.p9_wire.specs.FieldReading.{text_at, counted_at, several_at, qid_at, stat_at}
-use Rattle.p9_wire.specs.FieldReading.{of_two, of_three, of_four}
-
--- type, tag and body of the bytes, where these are all of a frame
-unfoldable pub header_at : List ℕ → Option (ℕ × ℕ × List ℕ)
-header_at bytes =
-    number_at 4 bytes and_then λ size.
-    if size.0 == length bytes
-    then ((number_at 1 then number_at 2) size.1 and_then λ x. Some (x.0.0, x.0.1, x.1)) else None
+use Rattle.p9_wire.specs.FieldReading.{header_at, of_two, of_three, of_four}
 
 -- the tag and the message, where the message takes up all of the bytes
 abbrev pub message_at : {M : Type 0} → (ℕ → Reader M) → List ℕ → Option (ℕ × M)

@@ -8,7 +8,7 @@ use Rattle.p9_wire.specs.Message.{Rclunk, Rremove, Rstat, Rwstat}
 use Rattle.p9_wire.specs.Fields.{number, text, counted, several, sized, stat_bytes}
 use Rattle.p9_wire.specs.Fields.{stat_len, FitsText, FitsNames, FitsStat, QidNumbersFit}
 use Rattle.p9_wire.specs.Fields.{StatNumbersFit}
-use Rattle.p9_wire.specs.Frame.{elements_max}
+use Rattle.p9_wire.specs.Fields.{elements_max}
 use Rattle.p9_wire.specs.Reply.{frame, r_spelling}
 
 -- requests. Terror is none of them, so 106 spells nothing

@@ -1,4 +1,4 @@
-//! The numbers of the protocol, as intro(5). `NOTAG`, `MAXWELEM`, `IOHDRSZ` and the message types
+//! The numbers of the protocol, as intro(5). `NOTAG`, `IOHDRSZ` and the message types
 //! have their names from the header file of fcall(2).
 
 /// The greatest number of bytes in a frame, its size among them. An msize is at most this.
@@ -6,9 +6,6 @@ pub const MSIZE_MAX: u32 = 1_048_576;
 
 /// The tag of a Tversion, which belongs to no other message.
 pub const NOTAG: u16 = 0xFFFF;
-
-/// The greatest number of names in a Twalk, and of qids in an Rwalk.
-pub const MAXWELEM: usize = 16;
 
 /// The bytes before a body: `size[4] type[1] tag[2]`.
 pub const HEADER: usize = 7;
@@ -22,9 +19,6 @@ pub const IOHDRSZ: u32 = 24;
 
 /// The bytes of a qid: `type[1] vers[4] path[8]`.
 pub const QID: usize = 13;
-
-/// The bytes of a stat whose four texts are empty, its own size among them.
-pub const STAT_FIXED: usize = 49;
 
 // The numbers of the message types. An Rauth (103) is never sent, and a Terror (106) is illegal, so
 // neither is here.

@@ -3,13 +3,14 @@
 
 ghost use Rattle.std.specs.Prelude.{◌≡◌, ◌<◌, ◌+◌, ◌^◌, ◌↔◌, IsTrue, length, sum_by};
 ghost use Rattle.p9_wire.specs.Fields.{FitsText, FitsNames, FitsStat, stat_len};
-ghost use Rattle.p9_wire.specs.Message.{stat_view, t_view, r_view};
+ghost use Rattle.p9_wire.specs.Stat.{stat_view};
+ghost use Rattle.p9_wire.specs.Message.{t_view, r_view};
 ghost use Rattle.p9_wire.specs.Spelling.{t_len, TFits, r_len, RFits};
 
-use crate::constants::{HEADER, MAXWELEM, QID, STAT_FIXED};
-use crate::message::{RMsg, Stat, TMsg};
-use crate::names::Names;
+use crate::constants::{HEADER, QID};
+use crate::message::{RMsg, TMsg};
 use p9_base::is_text;
+use p9_fields::{MAXWELEM, Names, Stat};
 
 /// The most bytes of a text, whose length is in two.
 const TEXT_MAX: usize = 65_535;
@@ -58,19 +59,6 @@ fn stat_fits(stat: &Stat<'_>) -> bool
         && text_fits(stat.gid)
         && text_fits(stat.muid);
     texts_fit && stat.size() <= TEXT_MAX
-}
-
-impl Stat<'_> {
-    /// How many bytes the stat takes, its own size among them, as stat(5).
-    pub fn size(&self) -> usize
-        requires name { length self.now.name.now < 2 ^ 16 }
-        requires uid { length self.now.uid.now < 2 ^ 16 }
-        requires gid { length self.now.gid.now < 2 ^ 16 }
-        requires muid { length self.now.muid.now < 2 ^ 16 }
-        ensures { result ≡ stat_len (stat_view self.now) }
-    {
-        STAT_FIXED + self.name.len() + self.uid.len() + self.gid.len() + self.muid.len()
-    }
 }
 
 impl TMsg<'_> {

@@ -8,14 +8,11 @@
 #![tactic(auto)]
 
 mod constants;
-pub mod fields;
 mod fits;
 mod frame;
 pub mod laws;
 mod message;
-mod names;
 pub mod put;
-mod qids;
 mod r_reading;
 mod r_writing;
 mod stat_reading;
@@ -23,12 +20,11 @@ mod stream;
 mod t_reading;
 mod t_writing;
 
-pub use constants::{HEADER, IOHDRSZ, MAXWELEM, MSIZE_MAX, NOTAG, READ_HEADER, STAT_FIXED};
+pub use constants::{HEADER, IOHDRSZ, MSIZE_MAX, NOTAG, READ_HEADER};
 pub use frame::{Frame, frame_of, is_frame};
-pub use message::{RMsg, Stat, TMsg};
-pub use names::Names;
+pub use message::{RMsg, TMsg};
+pub use p9_fields::{MAXWELEM, Names, Qids, STAT_FIXED, Stat};
 pub use put::write_stat;
-pub use qids::Qids;
 pub use r_reading::read_r;
 pub use r_writing::{finish_read, write_r};
 pub use stat_reading::read_stat;

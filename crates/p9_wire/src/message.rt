@@ -1,36 +1,7 @@
 //! What a message says, apart from its tag.
 
-use crate::names::Names;
-use crate::qids::Qids;
 use p9_base::Qid;
-
-/// What a server reports of a file, or a client asks to change, as stat(5). The fields are in the
-/// order of their bytes.
-#[derive(Clone, Copy, Debug)]
-pub struct Stat<'a> {
-    /// The manual's `type`, that of the server's device, for the kernel's use.
-    pub kind: u16,
-    /// The server's number among those of its type, for the kernel's use.
-    pub dev: u32,
-    /// The file's identity and version.
-    pub qid: Qid,
-    /// Permissions and flags.
-    pub mode: u32,
-    /// When the contents were last read, in seconds since 1970.
-    pub atime: u32,
-    /// When the contents were last changed, in seconds since 1970.
-    pub mtime: u32,
-    /// The length of the contents in bytes.
-    pub length: u64,
-    /// The last name of the file's path, or `/` for the root of its server.
-    pub name: &'a str,
-    /// The owner's name.
-    pub uid: &'a str,
-    /// The group's name.
-    pub gid: &'a str,
-    /// The name of the user who last changed the contents.
-    pub muid: &'a str,
-}
+use p9_fields::{Names, Qids, Stat};
 
 /// What a client asks, in the order of the manual. Texts and data are slices of the frame.
 #[derive(Drop)]

@@ -4,14 +4,12 @@
 ghost use Rattle.std.specs.Prelude.{◌≡◌, ◌≤◌, ◌<◌, ◌+◌, ◌*◌, ◌^◌, ◌++◌, All, length, sum_by};
 ghost use Rattle.p9_wire.specs.Fields.{number, text, counted, several, sized, qid_bytes};
 ghost use Rattle.p9_wire.specs.Fields.{stat_fields, stat_bytes, stat_len, FitsStat};
-ghost use Rattle.p9_wire.specs.Message.{stat_view};
+ghost use Rattle.p9_wire.specs.Stat.{stat_view};
 ghost use Rattle.p9_wire.specs.Writing.{Puts, Writes};
 
-use crate::message::Stat;
-use crate::names::Names;
-use crate::qids::Qids;
 use byteorder::{ByteOrder, LittleEndian};
 use p9_base::Qid;
+use p9_fields::{Names, Qids, Stat};
 
 pub fn put_bytes(out: &mut [u8], at: usize, bytes: &[u8]) -> usize
     requires { at + length bytes.now ≤ length out.old }
@@ -23,7 +21,7 @@ pub fn put_bytes(out: &mut [u8], at: usize, bytes: &[u8]) -> usize
     end
 }
 
-#[tactic(auto, unfolding(crate::specs::Fields::number))]
+#[tactic(auto, unfolding(p9_fields::specs::Fields::number))]
 pub fn put_u8(out: &mut [u8], at: usize, n: u8) -> usize
     requires { at + 1 ≤ length out.old }
     ensures next { result ≡ at + 1 }
@@ -33,7 +31,7 @@ pub fn put_u8(out: &mut [u8], at: usize, n: u8) -> usize
     at + 1
 }
 
-#[tactic(auto, unfolding(crate::specs::Fields::number))]
+#[tactic(auto, unfolding(p9_fields::specs::Fields::number))]
 pub fn put_u16(out: &mut [u8], at: usize, n: u16) -> usize
     requires { at + 2 ≤ length out.old }
     ensures next { result ≡ at + 2 }
@@ -44,7 +42,7 @@ pub fn put_u16(out: &mut [u8], at: usize, n: u16) -> usize
     put_bytes(out, at, &bytes)
 }
 
-#[tactic(auto, unfolding(crate::specs::Fields::number))]
+#[tactic(auto, unfolding(p9_fields::specs::Fields::number))]
 pub fn put_u32(out: &mut [u8], at: usize, n: u32) -> usize
     requires { at + 4 ≤ length out.old }
     ensures next { result ≡ at + 4 }
@@ -55,7 +53,7 @@ pub fn put_u32(out: &mut [u8], at: usize, n: u32) -> usize
     put_bytes(out, at, &bytes)
 }
 
-#[tactic(auto, unfolding(crate::specs::Fields::number))]
+#[tactic(auto, unfolding(p9_fields::specs::Fields::number))]
 pub fn put_u64(out: &mut [u8], at: usize, n: u64) -> usize
     requires { at + 8 ≤ length out.old }
     ensures next { result ≡ at + 8 }

@@ -12,10 +12,10 @@ use crate::constants::{
     RATTACH, RCLUNK, RCREATE, RERROR, RFLUSH, ROPEN, RREAD, RREMOVE, RSTAT, RVERSION, RWALK,
     RWRITE, RWSTAT,
 };
-use crate::fields::{
-    take_counted, take_header, take_qid, take_qids, take_sized_stat, take_text, take_u32,
-};
 use crate::message::RMsg;
+use p9_fields::{
+    take_counted, take_end, take_header, take_qid, take_qids, take_sized_stat, take_text, take_u32,
+};
 
 #[tactic(auto, unfolding(crate::specs::Reading::r_version_at))]
 fn version(body: &[u8]) -> Option<(RMsg<'_>, &[u8])>
@@ -122,11 +122,8 @@ fn whole(bytes: &[u8]) -> Option<(u16, RMsg<'_>)>
 {
     let (kind, tag, body) = take_header(bytes)?;
     let (message, rest) = body_of(kind, body)?;
-    if rest.is_empty() {
-        Some((tag, message))
-    } else {
-        None
-    }
+    take_end(rest)?;
+    Some((tag, message))
 }
 
 /// The reply that these bytes are, with its tag, as intro(5). None where no reply has all of these

@@ -2,10 +2,9 @@
 
 ghost use Rattle.std.specs.Prelude.{◌≡◌, IfNone, IfSome};
 ghost use Rattle.p9_wire.specs.Fields.{FitsStat, StatNumbersFit, stat_bytes};
-ghost use Rattle.p9_wire.specs.Message.{StatFields, stat_view};
+ghost use Rattle.p9_wire.specs.Stat.{StatFields, stat_view};
 
-use crate::fields::take_stat;
-use crate::message::Stat;
+use p9_fields::{Stat, take_stat};
 
 /// The stat that all of these bytes are, its size among them, as a read of a directory returns it,
 /// read(5). It is `None` where they are no stat.

@@ -13,11 +13,11 @@ use crate::constants::{
     TATTACH, TAUTH, TCLUNK, TCREATE, TFLUSH, TOPEN, TREAD, TREMOVE, TSTAT, TVERSION, TWALK, TWRITE,
     TWSTAT,
 };
-use crate::fields::{
-    take_counted, take_header, take_names, take_sized_stat, take_text, take_u8, take_u16, take_u32,
-    take_u64,
-};
 use crate::message::TMsg;
+use p9_fields::{
+    take_counted, take_end, take_header, take_names, take_sized_stat, take_text, take_u8, take_u16,
+    take_u32, take_u64,
+};
 
 #[tactic(auto, unfolding(crate::specs::Reading::t_version_at))]
 fn version(body: &[u8]) -> Option<(TMsg<'_>, &[u8])>
@@ -186,11 +186,8 @@ fn whole(bytes: &[u8]) -> Option<(u16, TMsg<'_>)>
 {
     let (kind, tag, body) = take_header(bytes)?;
     let (message, rest) = body_of(kind, body)?;
-    if rest.is_empty() {
-        Some((tag, message))
-    } else {
-        None
-    }
+    take_end(rest)?;
+    Some((tag, message))
 }
 
 /// The request that these bytes are, with its tag, as intro(5). None where no request has all of

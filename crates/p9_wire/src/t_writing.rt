@@ -10,10 +10,10 @@ use crate::constants::{
     TWRITE, TWSTAT,
 };
 use crate::message::TMsg;
-use crate::names::Names;
 use crate::put::{
     put_counted, put_header, put_names, put_sized_stat, put_text, put_u8, put_u16, put_u32, put_u64,
 };
+use p9_fields::Names;
 
 /// The number of the message's type.
 fn kind_of(message: &TMsg<'_>) -> u8

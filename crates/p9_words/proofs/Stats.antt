@@ -2,7 +2,7 @@
 use Rattle.std.proofs.Common.{◌≡◌, ℕ, ◌-◌, List, ◌++◌, length, sym, ap, ◌∙◌, append_assoc}
 use Rattle.std.proofs.Common.{arith}
 use Rattle.p9_wire.specs.Fields.{number, sized, stat_bytes, stat_fields, stat_len}
-use Rattle.p9_wire.specs.Message.{StatFields}
+use Rattle.p9_wire.specs.Stat.{StatFields}
 use Rattle.p9_wire.proofs.Lengths.{length-stat_bytes, length-stat_fields}
 use Rattle.p9_words.specs.Stat.{stat_numbers, stat_texts}
 

@@ -12,7 +12,7 @@ use Rattle.p9_wire.specs.Fields.{stat_fields, FitsText, FitsNames, FitsStat, Qid
 use Rattle.p9_wire.specs.Fields.{stat_len}
 use Rattle.p9_wire.specs.Fields.{StatNumbersFit}
 use Rattle.p9_wire.specs.Frame.{IsBytes}
-use Rattle.p9_wire.specs.Message.{StatFields}
+use Rattle.p9_wire.specs.Stat.{StatFields}
 use Rattle.p9_wire.proofs.Bytes.{IsBytes-back, IsBytes-front}
 use Rattle.p9_words.specs.Class.{is_in, skip_blanks}
 use Rattle.p9_words.specs.Stat.{stat_numbers}

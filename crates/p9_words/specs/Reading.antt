@@ -10,7 +10,7 @@ use Rattle.std.specs.Str.Parse.{digits_value}
 use Rattle.hex.specs.Hex.{decode_of}
 use Rattle.p9_base.specs.declared.qid.Qid.{Qid}
 use Rattle.p9_base.specs.Text.{is_text}
-use Rattle.p9_wire.specs.Message.{StatFields}
+use Rattle.p9_wire.specs.Stat.{StatFields}
 use Rattle.p9_wire.specs.Fields.{number, text, counted, qid_bytes, sized, stat_bytes, stat_len}
 use Rattle.p9_words.specs.declared.class.Class.TheVariants as class
 use Rattle.p9_words.specs.declared.error.Expected.{Expected}

@@ -1,7 +1,7 @@
 -- The parts of a stat that was read.
 use Rattle.std.specs.Prelude.{ℕ, List, ◌++◌}
 use Rattle.p9_wire.specs.Fields.{number, text, qid_bytes}
-use Rattle.p9_wire.specs.Message.{StatFields}
+use Rattle.p9_wire.specs.Stat.{StatFields}
 use Rattle.p9_words.specs.declared.stat.Parts.{Parts}
 
 -- the fields of the stat

@@ -1,5 +1,5 @@
 -- The values of fields, of the code's types.
-use Rattle.p9_wire.specs.Message.{stat_view}
+use Rattle.p9_wire.specs.Stat.{stat_view}
 use Rattle.p9_words.specs.declared.form.Width.TheVariants as width
 use Rattle.p9_words.specs.declared.value.Value.{Value as CodeValue}
 use Rattle.p9_words.specs.declared.value.Value.TheVariants as value

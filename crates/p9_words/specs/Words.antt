@@ -6,7 +6,8 @@ use Rattle.std.specs.List.{flat_map, list_all}
 use Rattle.std.specs.Str.{is_utf8}
 use Rattle.hex.specs.Hex.{encode_lower}
 use Rattle.p9_base.specs.declared.qid.Qid.{Qid}
-use Rattle.p9_wire.specs.Message.{StatFields, TMessage, Tversion, Tauth, Tattach, Tflush, Twalk}
+use Rattle.p9_wire.specs.Stat.{StatFields}
+use Rattle.p9_wire.specs.Message.{TMessage, Tversion, Tauth, Tattach, Tflush, Twalk}
 use Rattle.p9_wire.specs.Message.{Topen, Tcreate, Tread, Twrite, Tclunk, Tremove, Tstat, Twstat}
 use Rattle.p9_wire.specs.Message.{RMessage, Rversion, Rattach, Rerror, Rflush, Rwalk, Ropen}
 use Rattle.p9_wire.specs.Message.{Rcreate, Rread, Rwrite, Rclunk, Rremove, Rstat, Rwstat}

@@ -3,7 +3,7 @@
 
 ghost use Rattle.std.specs.Prelude.{◌≡◌, ◌==◌, ◌&&◌, ◌++◌, OnOk, codes, length, not};
 ghost use Rattle.std.specs.List.{flat_map, list_all};
-ghost use Rattle.p9_wire.specs.Message.{stat_view};
+ghost use Rattle.p9_wire.specs.Stat.{stat_view};
 ghost use Rattle.p9_words.specs.Class.{is_bare};
 ghost use Rattle.p9_words.specs.Key.{key_text};
 ghost use Rattle.p9_words.specs.Value.{value_view};

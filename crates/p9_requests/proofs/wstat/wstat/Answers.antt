@@ -5,7 +5,8 @@ use Rattle.p9_space.specs.Rights.{Who}
 use Rattle.p9_tree.specs.declared.change.Change.{Change}
 use Rattle.p9_tree.specs.Change.{changed}
 use Rattle.p9_tree.specs.Forest.{forest_changed_at}
-use Rattle.p9_wire.specs.Message.{Rwstat, StatFields, stat_view}
+use Rattle.p9_wire.specs.Stat.{StatFields, stat_view}
+use Rattle.p9_wire.specs.Message.{Rwstat}
 use Rattle.p9_fids.specs.Fid.{fid_at}
 use Rattle.p9_step.specs.ForestChange.{all_applied}
 use Rattle.p9_step.specs.End.{parent_marked}

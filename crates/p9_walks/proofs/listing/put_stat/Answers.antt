@@ -2,7 +2,7 @@ use Rattle.std.proofs.Common.{◌≡◌, ap, arith, refl, ◌∙◌}
 use Rattle.p9_base.specs.NodeRef.{beside}
 use Rattle.p9_wire.proofs.Lengths.{length-stat_bytes}
 use Rattle.p9_wire.specs.Fields.{stat_len}
-use Rattle.p9_wire.specs.Message.{stat_view}
+use Rattle.p9_wire.specs.Stat.{stat_view}
 use Rattle.p9_step.specs.Qid.{stat_of}
 use Rattle.p9_walks.proofs.listing.put_stat.Goals as goal
 

@@ -1,5 +1,5 @@
 use Rattle.std.proofs.Common.{arith}
-use Rattle.p9_wire.specs.Message.{stat_view}
+use Rattle.p9_wire.specs.Stat.{stat_view}
 use Rattle.p9_wire.specs.Fields.{stat_bytes}
 use Rattle.p9_wire.proofs.Lengths.{length-stat_bytes}
 use Rattle.p9_wire.proofs.Puts.{puts_sized}

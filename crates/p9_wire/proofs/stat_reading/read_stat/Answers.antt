@@ -1,7 +1,7 @@
 use Rattle.std.proofs.Common.{◌≡◌, ◌<◌, ◌∙◌, List, ℕ, [], Some, None, ap, arith, eqb, length, sym, true}
 use Rattle.std.proofs.lemmas.List.Elements.{All-from_get_or}
 use Rattle.std.proofs.lemmas.Option.{same_Some}
-use Rattle.p9_wire.specs.Message.{StatFields, stat_view}
+use Rattle.p9_wire.specs.Stat.{StatFields, stat_view}
 use Rattle.p9_wire.proofs.Codes.{none-left, stat-complete, stat-sound}
 use Rattle.p9_wire.proofs.stat_reading.read_stat.Goals as goal
 

@@ -2,7 +2,7 @@
 use Rattle.std.proofs.Common.{◌≡◌, ℕ, suc, ◌-◌, ◌+◌, ◌≤◌, ◌<◌, List, [], ◌∷◌, ◌++◌, Option, Some}
 use Rattle.std.proofs.Common.{None, refl, sym, ap, ◌∙◌, append_assoc, arith}
 use Rattle.std.proofs.lemmas.List.{append-nil}
-use Rattle.p9_wire.specs.FieldReading.{◌and_then◌, Reader, times}
+use Rattle.p9_fields.specs.FieldReading.{◌and_then◌, Reader, times}
 
 module _ {A : Type 0} (r : Reader A) where
   -- what was read before, and what is still read

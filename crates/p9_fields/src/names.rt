@@ -2,11 +2,14 @@
 
 ghost use Rattle.std.specs.Prelude.{◌≡◌, ◌==◌, ◌<◌, ◌≤◌, ◌++◌, ◌∷◌, [], ℕ, List, Some, map};
 ghost use Rattle.std.specs.Prelude.{length, slice_get};
-ghost use Rattle.p9_wire.specs.Frame.{elements_max};
+ghost use Rattle.p9_fields.specs.Fields.{elements_max};
 
-use crate::constants::MAXWELEM;
 use arrayvec::ArrayVec;
 use std::marker::Model;
+
+/// The greatest number of names in a Twalk, and of qids in an Rwalk. Its name is from the header
+/// file of fcall(2).
+pub const MAXWELEM: usize = 16;
 
 /// Up to sixteen names, as one message of walk(5) holds. A contract sees them as the list of their
 /// bytes.

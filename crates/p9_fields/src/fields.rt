@@ -1,24 +1,34 @@
 //! Fields taken from the front of bytes. Each returns its value and the bytes after it, or None
 //! where the bytes begin with no such field.
 
-ghost use Rattle.std.specs.Prelude.{◌≡◌, ◌≤◌, ◌==◌, Some, None, nat_lt, if◌then◌else◌};
+ghost use Rattle.std.specs.Prelude.{◌≡◌, ◌≤◌, ◌==◌, Some, None, length, nat_lt, if◌then◌else◌};
 ghost use Rattle.p9_base.specs.Text.{is_text as text_test};
-ghost use Rattle.p9_wire.specs.Frame.{elements_max};
-ghost use Rattle.p9_wire.specs.Message.{stat_view};
-ghost use Rattle.p9_wire.specs.FieldReading.{◌and_then◌, Gives, number_at, bytes_at, text_at};
-ghost use Rattle.p9_wire.specs.FieldReading.{sized_bytes_at, qid_at, counted_at, times};
-ghost use Rattle.p9_wire.specs.FieldReading.{numbers_view, several_at, sized_at, stat_at};
-ghost use Rattle.p9_wire.specs.FieldReading.{stat_fields_at, stat_numbers_at};
-ghost use Rattle.p9_wire.specs.Reading.{header_at};
+ghost use Rattle.p9_fields.specs.Fields.{elements_max};
+ghost use Rattle.p9_fields.specs.Stat.{stat_view};
+ghost use Rattle.p9_fields.specs.FieldReading.{◌and_then◌, Gives, number_at, bytes_at, text_at};
+ghost use Rattle.p9_fields.specs.FieldReading.{sized_bytes_at, qid_at, counted_at, times};
+ghost use Rattle.p9_fields.specs.FieldReading.{numbers_view, several_at, sized_at, stat_at};
+ghost use Rattle.p9_fields.specs.FieldReading.{header_at, stat_fields_at, stat_numbers_at};
 
-use crate::constants::MAXWELEM;
-use crate::message::Stat;
-use crate::names::Names;
+use crate::names::{MAXWELEM, Names};
 use crate::qids::Qids;
+use crate::stat::Stat;
 use byteorder::{ByteOrder, LittleEndian};
 use p9_base::{Qid, is_text};
 use std::str::from_utf8;
 
+/// Nothing, where no bytes are left. It is None where some are.
+pub fn take_end(bytes: &[u8]) -> Option<()>
+    ensures { result ≡ (if length bytes.now == 0 then Some tt else None) }
+{
+    if bytes.is_empty() {
+        Some(())
+    } else {
+        None
+    }
+}
+
+/// A number of one byte.
 pub fn take_u8(bytes: &[u8]) -> Option<(u8, &[u8])>
     ensures { Gives (λ x. (x.0, x.1.now)) result (number_at 1 bytes.now) }
 {
@@ -28,6 +38,7 @@ pub fn take_u8(bytes: &[u8]) -> Option<(u8, &[u8])>
     }
 }
 
+/// A number of two bytes, the lowest first.
 pub fn take_u16(bytes: &[u8]) -> Option<(u16, &[u8])>
     ensures { Gives (λ x. (x.0, x.1.now)) result (number_at 2 bytes.now) }
 {
@@ -37,6 +48,7 @@ pub fn take_u16(bytes: &[u8]) -> Option<(u16, &[u8])>
     Some((LittleEndian::read_u16(bytes), &bytes[2..]))
 }
 
+/// A number of four bytes, the lowest first.
 pub fn take_u32(bytes: &[u8]) -> Option<(u32, &[u8])>
     ensures { Gives (λ x. (x.0, x.1.now)) result (number_at 4 bytes.now) }
 {
@@ -46,6 +58,7 @@ pub fn take_u32(bytes: &[u8]) -> Option<(u32, &[u8])>
     Some((LittleEndian::read_u32(bytes), &bytes[4..]))
 }
 
+/// A number of eight bytes, the lowest first.
 pub fn take_u64(bytes: &[u8]) -> Option<(u64, &[u8])>
     ensures { Gives (λ x. (x.0, x.1.now)) result (number_at 8 bytes.now) }
 {
@@ -258,11 +271,8 @@ pub fn take_stat(bytes: &[u8]) -> Option<(Stat<'_>, &[u8])>
 {
     let (front, rest) = take_sized(bytes)?;
     let (stat, end) = take_stat_fields(front)?;
-    if end.is_empty() {
-        Some((stat, rest))
-    } else {
-        None
-    }
+    take_end(end)?;
+    Some((stat, rest))
 }
 
 /// A stat as a message holds it: after two bytes of length, which its size and fields take up.
@@ -272,15 +282,12 @@ pub fn take_sized_stat(bytes: &[u8]) -> Option<(Stat<'_>, &[u8])>
 {
     let (front, rest) = take_sized(bytes)?;
     let (stat, end) = take_stat(front)?;
-    if end.is_empty() {
-        Some((stat, rest))
-    } else {
-        None
-    }
+    take_end(end)?;
+    Some((stat, rest))
 }
 
 /// `size[4] type[1] tag[2]`: type, tag and body of a frame that has all of these bytes.
-#[tactic(auto, unfolding(crate::specs::Reading::header_at))]
+#[tactic(auto, unfolding(crate::specs::FieldReading::header_at))]
 pub fn take_header(bytes: &[u8]) -> Option<(u8, u16, &[u8])>
     ensures { Gives (λ x. (x.0, x.1, x.2.now)) result (header_at bytes.now) }
 {

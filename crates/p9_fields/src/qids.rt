@@ -2,9 +2,9 @@
 
 ghost use Rattle.std.specs.Prelude.{◌≡◌, ◌==◌, ◌<◌, ◌≤◌, ◌++◌, ◌∷◌, [], List, length};
 ghost use Rattle.p9_base.specs.declared.qid.Qid.{Qid};
-ghost use Rattle.p9_wire.specs.Frame.{elements_max};
+ghost use Rattle.p9_fields.specs.Fields.{elements_max};
 
-use crate::constants::MAXWELEM;
+use crate::names::MAXWELEM;
 use arrayvec::ArrayVec;
 use p9_base::Qid;
 use std::marker::Model;

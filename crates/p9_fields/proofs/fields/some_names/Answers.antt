@@ -1,8 +1,8 @@
 use Rattle.std.proofs.Common.{ℕ, ◌+◌, ap, ◌∙◌}
 use Rattle.std.proofs.lemmas.List.{length_push}
-use Rattle.p9_wire.specs.FieldReading.{times, text_at}
-use Rattle.p9_wire.proofs.Times.{goes_on, ends, is_done}
-use Rattle.p9_wire.proofs.fields.some_names.Goals as goal
+use Rattle.p9_fields.specs.FieldReading.{times, text_at}
+use Rattle.p9_fields.proofs.Times.{goes_on, ends, is_done}
+use Rattle.p9_fields.proofs.fields.some_names.Goals as goal
 
 pub returns-in_err-name : goal.returns-in_err-name
 returns-in_err-name c =

@@ -4,8 +4,11 @@ use Rattle.std.specs.List.{flat_map, AllByRecursion}
 use Rattle.byteorder.specs.Endian.{little_bytes}
 use Rattle.p9_base.specs.declared.qid.Qid.{Qid}
 use Rattle.p9_base.specs.Text.{is_text}
-use Rattle.p9_wire.specs.Frame.{elements_max}
-use Rattle.p9_wire.specs.Message.{StatFields}
+use Rattle.p9_fields.specs.Stat.{StatFields}
+
+-- the most names of a Twalk, and the most qids of an Rwalk
+abbrev pub elements_max : ℕ
+elements_max = 16
 
 -- a number in so many bytes, the lowest first
 unfoldable pub number : (bytes value : ℕ) → List ℕ

@@ -1,7 +1,7 @@
 use Rattle.std.proofs.Common.{◌≡◌, ◌-◌, length}
-use Rattle.p9_wire.specs.FieldReading.{times, qid_at}
-use Rattle.p9_wire.proofs.Times.{with_front}
-use Rattle.p9_wire.proofs.fields.some_qids.Given as goal
+use Rattle.p9_fields.specs.FieldReading.{times, qid_at}
+use Rattle.p9_fields.proofs.Times.{with_front}
+use Rattle.p9_fields.proofs.fields.some_qids.Given as goal
 
 abbrev pub invariant-loop-i : goal.invariant-loop-i
 invariant-loop-i l = record {

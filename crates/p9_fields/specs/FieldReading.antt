@@ -4,9 +4,9 @@ use Rattle.std.specs.Prelude.{Some, None, nat_lt, if◌then◌else◌}
 use Rattle.byteorder.specs.Endian.{little_number}
 use Rattle.p9_base.specs.declared.qid.Qid.{Qid}
 use Rattle.p9_base.specs.Text.{is_text}
-use Rattle.p9_wire.specs.Frame.{elements_max}
-use Rattle.p9_wire.specs.declared.fields.StatNumbers.{StatNumbers}
-use Rattle.p9_wire.specs.Message.{StatFields}
+use Rattle.p9_fields.specs.Fields.{elements_max}
+use Rattle.p9_fields.specs.declared.fields.StatNumbers.{StatNumbers}
+use Rattle.p9_fields.specs.Stat.{StatFields}
 
 -- goes on with the value, where there is one
 infixl 10 ◌and_then◌
@@ -128,3 +128,10 @@ stat_fields_at =
 -- as a message holds a stat: a length, and the stat's own size and fields, which take it up
 abbrev pub stat_at : Reader StatFields
 stat_at = sized_at (sized_at stat_fields_at)
+
+-- type, tag and body of the bytes, where these are all of a frame
+unfoldable pub header_at : List ℕ → Option (ℕ × ℕ × List ℕ)
+header_at bytes =
+    number_at 4 bytes and_then λ size.
+    if size.0 == length bytes
+    then ((number_at 1 then number_at 2) size.1 and_then λ x. Some (x.0.0, x.0.1, x.1)) else None

@@ -1,0 +1,3 @@
+pub mod Stat
+pub mod Fields
+pub mod FieldReading
