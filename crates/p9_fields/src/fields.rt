@@ -21,11 +21,7 @@ use std::str::from_utf8;
 pub fn take_end(bytes: &[u8]) -> Option<()>
     ensures { result ≡ (if length bytes.now == 0 then Some tt else None) }
 {
-    if bytes.is_empty() {
-        Some(())
-    } else {
-        None
-    }
+    if bytes.is_empty() { Some(()) } else { None }
 }
 
 /// A number of one byte.

@@ -11,8 +11,8 @@ mod qids;
 mod stat;
 
 pub use fields::{
-    take_counted, take_end, take_header, take_names, take_qid, take_qids, take_sized_stat, take_stat,
-    take_text, take_u8, take_u16, take_u32, take_u64,
+    take_counted, take_end, take_header, take_names, take_qid, take_qids, take_sized_stat,
+    take_stat, take_text, take_u8, take_u16, take_u32, take_u64,
 };
 pub use names::{MAXWELEM, Names};
 pub use qids::Qids;
