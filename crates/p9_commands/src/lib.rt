@@ -9,4 +9,4 @@ mod listing;
 mod offer;
 
 pub use command::{BadCommandLine, Command, run, run_command, run_command_over};
-pub use offer::served_guard;
+pub use offer::{served_guard, served_guard_over};

@@ -8,6 +8,7 @@ use p9_guard::Guard;
 use p9_index::IndexTree;
 use p9_play::guard_of;
 use p9_prepared::{Needs, prepare_and_report, print_stop};
+use p9_tree::Tree;
 use std::alloc::Allocator;
 
 /// The guard over the name space of an input, by its certificate and without sessions, for a
@@ -30,6 +31,18 @@ pub fn served_guard<A: Allocator + Copy>(
         guard) }
     ensures no_memory { OnErr result (err.new.items ≡ err.old.items) }
 {
+    served_guard_over::<IndexTree<A>>(input, err)
+}
+
+/// The guard of an input as [`served_guard`] has it, with a tree of this type for each server.
+pub fn served_guard_over<T: Tree>(
+    input: &[u8],
+    err: &mut Vec<u8, T::Alloc>,
+) -> Result<Option<Guard<T>>, NoMemory>
+    ensures ok { IfOk result (λ guard. Serves (offer_of input.now) err.old.items err.new.items
+        guard) }
+    ensures no_memory { OnErr result (err.new.items ≡ err.old.items) }
+{
     let mut reported = Vec::new(*err.allocator());
     let guard = offer(input, &mut reported)?;
     err.extend_from_slice(reported.as_slice())?;
@@ -37,10 +50,10 @@ pub fn served_guard<A: Allocator + Copy>(
 }
 
 // The guard that an input offers. Where an allocation fails, a part of the reports may be there.
-fn offer<A: Allocator + Copy>(
+fn offer<T: Tree>(
     input: &[u8],
-    err: &mut Vec<u8, A>,
-) -> Result<Option<Guard<IndexTree<A>>>, NoMemory>
+    err: &mut Vec<u8, T::Alloc>,
+) -> Result<Option<Guard<T>>, NoMemory>
     ensures { IfOk result (λ guard. Serves (offer_of input.now) err.old.items err.new.items
         guard) }
 {

@@ -14,7 +14,7 @@ use crate::listener::{Listener, Sockets};
 use crate::server::Server;
 use mio::net::TcpListener;
 use p9_base::NoMemory;
-use p9_commands::served_guard;
+use p9_commands::served_guard_over;
 use p9_guard::Guard;
 use p9_index::IndexTree;
 use p9_prepared::status::{DONE, REFUSED};
@@ -45,6 +45,8 @@ const LARGEST_BLOCK: usize = 1 << 24;
 /// the rounds, one after another, and the end of all sessions. So the theorem holds of that life, as
 /// [`every_serving_is_promised`](crate::laws::every_serving_is_promised) says. Which clients came,
 /// and what they sent, is not said, since no contract knows what comes over a socket.
+///
+/// [`served_guard`]: p9_commands::served_guard
 pub fn run_serve<R: Net + Clock + AllocGlobal, W: Write, E: Write>(
     rt: &R,
     address: SocketAddr,
@@ -64,7 +66,7 @@ pub fn run_serve<R: Net + Clock + AllocGlobal, W: Write, E: Write>(
 {
     let mut timer = MachineTimer { rt };
     let stay = Stay { address, rounds };
-    match served(rt, &mut timer, stay, input, out, err) {
+    match served::<_, IndexTree<Global>, _, _, _>(rt, &mut timer, stay, input, out, err) {
         Ok(Some(_)) => DONE,
         Ok(None) => REFUSED,
         Err(error) => report_failure(&error, err),
@@ -82,6 +84,8 @@ pub fn run_serve<R: Net + Clock + AllocGlobal, W: Write, E: Write>(
 /// Over a listener that tells who is to come, and streams that tell their bytes, the contract goes
 /// from the bytes of the input to those of each client:
 /// [`inputs_become_replies`](crate::laws::inputs_become_replies) says how.
+///
+/// [`served_guard`]: p9_commands::served_guard
 pub fn serve_clients<A: Allocator + Copy, L: Listener, C: Timer, E: Write>(
     alloc: A,
     timer: &mut C,
@@ -90,6 +94,31 @@ pub fn serve_clients<A: Allocator + Copy, L: Listener, C: Timer, E: Write>(
     input: &[u8],
     err: &mut E,
 ) -> io::Result<Option<Guard<IndexTree<A>>>>
+    ensures ok { IfOk result (GivesBackTo L.Stream.remaining L.Stream.contents (L.coming listener)
+        (offer_of input.now) rounds (record {
+          out_before = None;
+          out = None;
+          err_before = E.contents err.old;
+          err = E.contents err.new;
+          clock_before = C.readings timer.old;
+          clock = C.readings timer.new;
+        })) }
+    ensures err { OnErr result (IsCutShort (offer_of input.now) (E.contents err.old)
+        (E.contents err.new)) }
+{
+    clients_served::<L, IndexTree<A>, C, E>(alloc, timer, listener, rounds, input, err)
+}
+
+// Serves an input to the clients that come to a listener, as `serve_clients` does, with a tree of this
+// type for each server.
+fn clients_served<L: Listener, T: Tree, C: Timer, E: Write>(
+    alloc: T::Alloc,
+    timer: &mut C,
+    listener: L,
+    rounds: u64,
+    input: &[u8],
+    err: &mut E,
+) -> io::Result<Option<Guard<T>>>
     ensures ok { IfOk result (GivesBackTo L.Stream.remaining L.Stream.contents (L.coming listener)
         (offer_of input.now) rounds (record {
           out_before = None;
@@ -117,29 +146,29 @@ struct Stay {
 
 // Serves an input at an address for a number of rounds, up to a failure, which is not reported here.
 // Returns the guard as it is left, or nothing where there is nothing to serve.
-fn served<R: Net + AllocGlobal, T: Timer, W: Write, E: Write>(
+fn served<R: Net + AllocGlobal, T: Tree<Alloc = Global>, C: Timer, W: Write, E: Write>(
     rt: &R,
-    timer: &mut T,
+    timer: &mut C,
     stay: Stay,
     input: &[u8],
     out: &mut W,
     err: &mut E,
-) -> io::Result<Option<Guard<IndexTree<Global>>>>
+) -> io::Result<Option<Guard<T>>>
     ensures ok { IfOk result (GivesBack (offer_of input.now) stay.rounds (record {
       out_before = W.contents out.old;
       out = W.contents out.new;
       err_before = E.contents err.old;
       err = E.contents err.new;
-      clock_before = T.readings timer.old;
-      clock = T.readings timer.new;
+      clock_before = C.readings timer.old;
+      clock = C.readings timer.new;
     })) }
     ensures err { OnErr result (BreaksOff (offer_of input.now) (record {
       out_before = W.contents out.old;
       out = W.contents out.new;
       err_before = E.contents err.old;
       err = E.contents err.new;
-      clock_before = T.readings timer.old;
-      clock = T.readings timer.new;
+      clock_before = C.readings timer.old;
+      clock = C.readings timer.new;
     })) }
 {
     match offered(rt.alloc(), input, err)? {
@@ -149,18 +178,18 @@ fn served<R: Net + AllocGlobal, T: Timer, W: Write, E: Write>(
 }
 
 // The guard that an input offers, if it offers one. What is reported of the input is written.
-fn offered<A: Allocator + Copy, E: Write>(
-    alloc: A,
+fn offered<T: Tree, E: Write>(
+    alloc: T::Alloc,
     input: &[u8],
     err: &mut E,
-) -> io::Result<Option<Guard<IndexTree<A>>>>
+) -> io::Result<Option<Guard<T>>>
     ensures ok { IfOk result (IsOffer (offer_of input.now) (E.contents err.old)
         (E.contents err.new)) }
     ensures err { OnErr result (IsCutShort (offer_of input.now) (E.contents err.old)
         (E.contents err.new)) }
 {
     let mut reported = Vec::new(alloc);
-    let guard = match served_guard(input, &mut reported) {
+    let guard = match served_guard_over(input, &mut reported) {
         Ok(guard) => guard,
         Err(NoMemory) => return Err(io::Error::from(AllocError)),
     };
@@ -170,19 +199,19 @@ fn offered<A: Allocator + Copy, E: Write>(
 
 // Serves a guard: makes the listener, prints its address, runs the rounds, and closes all sessions
 // at the last reading of the clock. Returns the guard as it is left.
-fn serve<R: Net + AllocGlobal, T: Timer, W: Write>(
+fn serve<R: Net + AllocGlobal, T: Tree<Alloc = Global>, C: Timer, W: Write>(
     rt: &R,
-    timer: &mut T,
+    timer: &mut C,
     stay: Stay,
-    guard: Guard<IndexTree<Global>>,
+    guard: Guard<T>,
     out: &mut W,
-) -> io::Result<Guard<IndexTree<Global>>>
+) -> io::Result<Guard<T>>
     ensures ok { OnOk result ((bound : _)
         × Appends (W.contents out.old) (W.contents out.new) (listening bound)) }
     ensures front { (bound : _)
         × AppendsFront (W.contents out.old) (W.contents out.new) (listening bound) }
     ensures served { IfOk result (WasServed {S = ClientSocket} untold untold guard stay.rounds
-        (T.readings timer.old) (T.readings timer.new)) }
+        (C.readings timer.old) (C.readings timer.new)) }
 {
     let listener = Sockets::new(rt.alloc(), TcpListener::bind(rt, stay.address)?);
     print_address(rt, listener.local_addr()?, out)?;

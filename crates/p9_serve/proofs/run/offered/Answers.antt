@@ -15,7 +15,7 @@ returns-in-Err-clause-err g c = record {
 
 pub returns-in_err-write_text-clause-err : goal.returns-in_err-write_text-clause-err
 returns-in_err-write_text-clause-err g c =
-    let reports = c.served_guard.new.err.items in
+    let reports = c.served_guard_over.new.err.items in
     let serves : Serves (offer_of c.args.input.now) [] reports c.in-Ok.guard =
     subst (λ (before : List ℕ). Serves (offer_of c.args.input.now) before reports c.in-Ok.guard)
     c.new-reported.ensures.items c.in-Ok.ensures.ok in

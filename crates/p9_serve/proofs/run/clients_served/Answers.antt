@@ -2,7 +2,7 @@ use Rattle.std.proofs.Common.{Some, subst}
 use Rattle.p9_commands.specs.Offer.{offer_of}
 use Rattle.p9_serve.specs.Run.{IsOffer}
 use Rattle.p9_serve.proofs.Reports.{on_err, reported}
-use Rattle.p9_serve.proofs.run.serve_clients.Goals as goal
+use Rattle.p9_serve.proofs.run.clients_served.Goals as goal
 
 pub returns-in_err-serve_guard-in-Some-clause-err :
     goal.returns-in_err-serve_guard-in-Some-clause-err

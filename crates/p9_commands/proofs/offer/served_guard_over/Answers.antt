@@ -1,7 +1,7 @@
 use Rattle.std.proofs.Common.{ap, ◌++◌, ◌∙◌}
 use Rattle.p9_commands.specs.Offer.{offer_of}
 use Rattle.p9_commands.proofs.Offers.{offer-moved}
-use Rattle.p9_commands.proofs.offer.served_guard.Goals as goal
+use Rattle.p9_commands.proofs.offer.served_guard_over.Goals as goal
 
 pub returns-clause-ok : goal.returns-clause-ok
 returns-clause-ok g c =
