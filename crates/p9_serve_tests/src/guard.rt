@@ -2,7 +2,6 @@
 
 mod again;
 mod plays;
-mod refusals;
 mod runs;
 mod scripts;
 mod stops;

@@ -5,6 +5,7 @@
 
 use crate::conn::scripted::{Answer, Counts, Scripted, Tape};
 use crate::rows::{add, replies, requests};
+use crate::samples::{CERTIFICATE, VAULT};
 use linked_list_allocator::LocalHeap;
 use p9_cert::read_cert;
 use p9_conn::{Conn, Turn};
@@ -82,19 +83,6 @@ const ASIDE: &str = "\
 0b000000 7a 0400 01000000 > 1a000000 6b 0400 1100 7065726d697373696f6e2064656e696564
 11000000 6e 0500 00000000 01000000 0000 > 09000000 6f 0500 0000
 ";
-
-// The root and a public directory, which is 1, beside a vault, which is 2, with its key.
-const VAULT: &str = "\
-server main
-dir /pub 777 sys sys
-dir /vault 000 sys sys
-file /vault/key 600 sys sys 01
-user glenda
-hide main /vault
-";
-
-// The certificate of the root and of the public directory.
-const CERTIFICATE: &str = "cert 1\ndir 0 0\ndir 0 1\n";
 
 // More turns than any connection here has.
 const TURNS: u32 = 100_000;

@@ -1,8 +1,8 @@
 //! A script over a guard, frame by frame, where a request for memory is refused: a request that is
 //! answered `out of memory` is sent again, and an opening that was refused is made again.
 
-use crate::guard::refusals::{is_refusal, may_run_out};
 use crate::guard::scripts::Script;
+use crate::refused_replies::{is_refusal, may_run_out};
 use crate::scripts::{Step, step_of};
 use p9_export::{OpenError, is_frame};
 use p9_guard::Guard;

@@ -1,6 +1,7 @@
 //! Scripts of sessions over a guard. Their worlds, requests and replies come from outside.
 
-use crate::guard::worlds::{Bind, CERTIFICATE, COVER, COVERED_VAULT, Scene, VAULT};
+use crate::guard::worlds::{COVER, COVERED_VAULT, Scene};
+use crate::samples::{Bind, CERTIFICATE, SMALL, TWO_UNIONS, VAULT};
 use crate::scripts::REMOVED;
 use p9_space::Order;
 
@@ -106,26 +107,7 @@ pub const SCRIPTS: [Script; 8] = [
     },
 ];
 
-// The sample world: /a is 1, /a/b is 2 and /a/f is 3.
-const SMALL: &str = "\
-server main
-dir /a 755 glenda glenda
-dir /a/b 755 glenda glenda
-file /a/f 644 glenda glenda 6869
-user glenda
-";
-
 const ALL_OF_SMALL: &str = "cert 1\ndir 0 0\ndir 0 1\ndir 0 2\n";
-
-// Two directories with a file of one name: /u is 1, /u/n is 2, /x is 3 and /x/n is 4.
-const TWO_UNIONS: &str = "\
-server main
-dir /u 755 glenda glenda
-file /u/n 644 glenda glenda 75
-dir /x 755 glenda glenda
-file /x/n 644 glenda glenda 78
-user glenda
-";
 
 // A file is made in /x, whose second member permits creation.
 const UNION: &str = "\

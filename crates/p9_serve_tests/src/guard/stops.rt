@@ -3,10 +3,10 @@
 //! list without the openings and the requests that were refused, and at the place of each such
 //! request the reply `out of memory`.
 
-use crate::guard::refusals::{is_refusal, may_run_out};
 use crate::guard::runs::{Run, whole};
 use crate::guard::scripts::Script;
 use crate::guard::worlds::guard_of;
+use crate::refused_replies::{is_refusal, may_run_out};
 use crate::scripts::{Step, step_of};
 use byteorder::{ByteOrder, LittleEndian};
 use p9_export::Event;

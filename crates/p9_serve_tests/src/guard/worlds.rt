@@ -3,6 +3,7 @@
 //! Who owns a guard or a world gives it to `drop` at the end, so that how it is dropped is proved
 //! once, and not in each owner.
 
+use crate::samples::{Bind, node};
 use p9_base::NodeRef;
 use p9_cert::{Certificate, read_cert};
 use p9_guard::{Cause, Guard};
@@ -11,16 +12,6 @@ use p9_tree::Tree;
 use p9_world::{World, read_world};
 use std::alloc::Allocator;
 use std::process::Abort;
-
-/// The root and a public directory, which is 1, beside a vault, which is 2, with its key.
-pub const VAULT: &str = "\
-server main
-dir /pub 777 sys sys
-dir /vault 000 sys sys
-file /vault/key 600 sys sys 01
-user glenda
-hide main /vault
-";
 
 /// The root, which all may write, /empty, which is 1, and /vault, which is 2 and hidden, with a
 /// key.
@@ -33,19 +24,6 @@ file /vault/key 666 sys sys 01
 user glenda
 hide main /vault
 ";
-
-/// The certificate of the root and of node 1.
-pub const CERTIFICATE: &str = "cert 1\ndir 0 0\ndir 0 1\n";
-
-/// A node of server 0 that is bound at the place of another, in this order, with or without
-/// creation.
-#[derive(Clone, Copy)]
-pub struct Bind {
-    pub key: u64,
-    pub node: u64,
-    pub order: Order,
-    pub create: bool,
-}
 
 /// Node 1 in the place of node 2.
 pub const COVER: Bind = Bind {
@@ -74,7 +52,7 @@ fn world_of<T: Tree>(rt: &impl Abort, lent: T::Alloc, text: &str) -> World<T> {
 
 // Takes node 3, which is the last one and a leaf, out of a world.
 fn take_out<T: Tree>(rt: &impl Abort, world: &mut World<T>) {
-    let last = node_ref(3);
+    let last = node(3);
     drop_leaf(rt, world, last);
     assert!(rt; world.forest.node(last).is_none() && world.forest.next_of(0) == 4);
 }
@@ -90,17 +68,13 @@ fn drop_leaf<T: Tree>(rt: &impl Abort, world: &mut World<T>, at: NodeRef) {
 fn table_of<A: Allocator + Copy>(rt: &impl Abort, lent: A, bind: Option<Bind>) -> MountTable<A> {
     let mut table = MountTable::new(lent);
     if let Some(bind) = bind {
-        let (key, nodes) = (node_ref(bind.key), [node_ref(bind.node)]);
+        let (key, nodes) = (node(bind.key), [node(bind.node)]);
         if table.bind(key, &nodes, bind.order, bind.create).is_err() {
             let bound = table.bind(key, &nodes, bind.order, bind.create);
             assert!(rt; bound.is_ok());
         }
     }
     table
-}
-
-fn node_ref(number: u64) -> NodeRef {
-    NodeRef { server: 0, number }
 }
 
 // The certificate of a text, read again where an allocation failed.

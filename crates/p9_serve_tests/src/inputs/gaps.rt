@@ -1,5 +1,6 @@
 //! The gap of a certificate whose mount table has a node that no server gave.
 
+use crate::samples::CERTIFICATE;
 use p9_base::{NodeRef, number};
 use p9_cert::{read_cert, verify};
 use p9_index::IndexTree;
@@ -9,14 +10,12 @@ use p9_world::read_world;
 use std::alloc::Global;
 use std::process::Abort;
 
-// The root and a directory, which is 1, and a certificate of both.
+// The root and a directory, which is 1. The certificate is of both.
 const WORLD: &str = "\
 server main
 dir /a 755 sys sys
 user glenda
 ";
-
-const CERTIFICATE: &str = "cert 1\ndir 0 0\ndir 0 1\n";
 
 // A node of server 0 with what is bound in its place, as numbers, and the gap: the first of them
 // that no server gave. The gap comes before all others.

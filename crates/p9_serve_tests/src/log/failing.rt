@@ -1,7 +1,7 @@
 //! Each call of the device fails in turn.
 
+use crate::log::devices::{Work, in_memory};
 use crate::log::logs::{InMemory, add, count_done, found_in, recovers};
-use crate::log::memory::{Work, in_memory};
 use p9_log::{Crash, Device, Fuse, Log, LogError, create, recover};
 use std::alloc::Global;
 use std::process::Abort;

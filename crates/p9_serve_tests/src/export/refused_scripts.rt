@@ -1,18 +1,8 @@
-//! Whole scripts with each request for memory refused in turn, as in `refused`.
+//! Whole scripts with each request for memory refused in turn, as in `refused_messages`.
 
-use crate::again::{Script, play_refused};
-use crate::worlds::{Bind, SMALL};
+use crate::export::sent_again::{Script, play_refused};
+use crate::samples::{Bind, SMALL, TWO_UNIONS};
 use p9_space::Order;
-
-// Two directories with a file of one name: /u is 1, /u/n is 2, /x is 3 and /x/n is 4.
-const TWO_UNIONS: &str = "\
-server main
-dir /u 755 glenda glenda
-file /u/n 644 glenda glenda 75
-dir /x 755 glenda glenda
-file /x/n 644 glenda glenda 78
-user glenda
-";
 
 // The root, which all may write, /empty, which is 1, and /vault, which is 2, with its key.
 const VAULT: &str = "\

@@ -1,7 +1,7 @@
 //! A run of a namespace file in which an allocation fails does not change the table.
 
-use crate::both::{Trial, refusals};
-use crate::worlds::node;
+use crate::export::both::{Trial, refusals};
+use crate::samples::node;
 use p9_base::Fault;
 use p9_nsfile::{NsError, OpFault, run_file};
 use p9_space::{MountTable, Order};

@@ -1,9 +1,10 @@
 //! Files that grow, with each request for memory refused in turn: a request that makes a file longer
 //! changes all that it asks for, or nothing.
 
-use crate::again::{grow_refused, is_answered};
-use crate::exchange::{exchange, exchange_all, row_of};
-use crate::worlds::{SMALL, exporter};
+use crate::export::exchange::{exchange, exchange_all, row_of};
+use crate::export::exporters::exporter;
+use crate::export::sent_again::{grow_refused, is_answered};
+use crate::samples::SMALL;
 use p9_export::Export;
 use p9_tree::Tree;
 use std::alloc::Global;

@@ -1,7 +1,7 @@
 //! A file that grows to the greatest length. Rows have messages and files of the greatest length.
 
-use crate::again::grow_refused;
-use crate::growth::{Growth, Step};
+use crate::export::growth::{Growth, Step};
+use crate::export::sent_again::grow_refused;
 
 // Session 1 asks for the greatest msize. Its fid 1 is /a/f, open for reading and writing, and takes
 // 1,048,552 bytes at once.

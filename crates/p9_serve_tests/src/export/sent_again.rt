@@ -1,10 +1,12 @@
 //! Messages in a world where allocations fail: a request that is answered `out of memory` is sent
 //! again.
 
-use crate::both::{Trial, refusals};
-use crate::exchange::{Row, exchange, in_session, is_reply, row_of, send};
-use crate::growth::{Growth, before_growth, grow_all};
-use crate::worlds::{ATTACH, Bind, VERSION, exporter};
+use crate::export::both::{Trial, refusals};
+use crate::export::exchange::{Row, exchange, in_session, is_reply, row_of, send};
+use crate::export::exporters::{ATTACH, VERSION, exporter};
+use crate::export::growth::{Growth, before_growth, grow_all};
+use crate::refused_replies::{is_refusal, may_run_out};
+use crate::samples::Bind;
 use p9_export::Export;
 use p9_testing::bytes_of;
 use p9_tree::Tree;
@@ -157,22 +159,9 @@ fn is_reply_or_refusal(
     wanted: &str,
 ) -> bool {
     if is_refusal(request, reply) {
-        assert!(rt; request.get(4).is_some_and(|kind| may_run_out(*kind)));
+        assert!(rt; may_run_out(request));
         return false;
     }
     is_reply(rt, alloc, reply, wanted);
     true
-}
-
-// Whether a request of this type may be answered `out of memory`: an attach, a walk, a create, a
-// write and a wstat.
-fn may_run_out(kind: u8) -> bool {
-    matches!(kind, 104 | 110 | 114 | 118 | 126)
-}
-
-// Whether the reply to the request says that an allocation failed.
-fn is_refusal(request: &[u8], reply: &[u8]) -> bool {
-    reply.get(..5) == Some([22, 0, 0, 0, 107].as_slice())
-        && reply.get(5..7) == request.get(5..7)
-        && reply.get(7..) == Some(b"\x0d\0out of memory".as_slice())
 }

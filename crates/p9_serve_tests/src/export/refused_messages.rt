@@ -1,8 +1,8 @@
 //! Messages with each request for memory refused in turn. A request that is answered `out of
 //! memory` is sent again, and then every reply is that of a run without refusals.
 
-use crate::again::{Script, play_refused};
-use crate::worlds::SMALL;
+use crate::export::sent_again::{Script, play_refused};
+use crate::samples::SMALL;
 
 const MESSAGES: [Script<'static>; 5] = [
     // The exporter is as before at each refusal of a session's beginning.

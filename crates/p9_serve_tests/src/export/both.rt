@@ -1,9 +1,9 @@
 //! Work over both kinds of tree. Each kind is named here once for each allocator, as naming one costs
 //! a proof much.
 
-use crate::again::{Play, play_again, ready};
-use crate::exchange::room;
-use crate::nsfile::{Given, make_given, run};
+use crate::export::exchange::room;
+use crate::export::nsfile::{Given, make_given, run};
+use crate::export::sent_again::{Play, play_again, ready};
 use p9_export::Export;
 use p9_index::IndexTree;
 use p9_testing::Refusing;

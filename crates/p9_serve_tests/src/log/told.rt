@@ -1,7 +1,7 @@
 //! Logs do as they are told: what is then in their files, and what crashes leave.
 
+use crate::log::devices::{Work, in_memory};
 use crate::log::logs::{InMemory, does, found_in, recovers};
-use crate::log::memory::{Work, in_memory};
 use p9_log::{Crash, Recovered};
 use p9_testing::bytes_of;
 use std::alloc::Global;

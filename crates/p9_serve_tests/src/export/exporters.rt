@@ -1,31 +1,13 @@
 //! Exporters of small worlds, and the beginnings of sessions.
 
-use crate::exchange::{exchange, in_session};
-use p9_base::NodeRef;
+use crate::export::exchange::{exchange, in_session};
+use crate::samples::{Bind, node};
 use p9_export::Export;
-use p9_space::{MountTable, Order, is_table_given};
+use p9_space::{MountTable, is_table_given};
 use p9_tree::Tree;
 use p9_world::{World, read_world};
 use std::alloc::{Allocator, Global};
 use std::process::Abort;
-
-/// The sample world: /a is 1, /a/b is 2 and /a/f is 3.
-pub const SMALL: &str = "\
-server main
-dir /a 755 glenda glenda
-dir /a/b 755 glenda glenda
-file /a/f 644 glenda glenda 6869
-user glenda
-";
-
-/// A node that is bound at the place of another, in this order, with or without creation.
-#[derive(Clone, Copy)]
-pub struct Bind {
-    pub key: u64,
-    pub node: u64,
-    pub order: Order,
-    pub create: bool,
-}
 
 /// An exporter of the world of a text, whose first server has these binds.
 pub fn exporter<T: Tree>(
@@ -58,11 +40,6 @@ fn table_of<A: Allocator + Copy>(rt: &impl Abort, alloc: A, binds: &[Bind]) -> M
         assert!(rt; bound.is_ok());
     }
     table
-}
-
-/// The node of this number at the one server.
-pub fn node(number: u64) -> NodeRef {
-    NodeRef { server: 0, number }
 }
 
 /// A client asks for an msize of 8,192.

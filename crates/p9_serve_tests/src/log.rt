@@ -2,8 +2,8 @@
 //! where a block was torn, and where each call of the device fails in turn. Tests of p9_disk: a log in a
 //! file of a folder.
 
+mod devices;
 mod failing;
 mod files;
 mod logs;
-mod memory;
 mod told;

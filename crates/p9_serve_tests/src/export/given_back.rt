@@ -1,8 +1,9 @@
 //! What the end of a fid, a file, a session and an exporter gives back: over a heap that counts the
 //! bytes that are lent.
 
-use crate::exchange::{room, send};
-use crate::worlds::{SMALL, begin, close, exporter};
+use crate::export::exchange::{room, send};
+use crate::export::exporters::{begin, close, exporter};
+use crate::samples::SMALL;
 use linked_list_allocator::LocalHeap;
 use p9_export::Export;
 use p9_index::IndexTree;

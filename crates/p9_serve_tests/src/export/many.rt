@@ -1,9 +1,9 @@
 //! Many files with each request for memory refused in turn. They fill more than one node of an ordered map,
 //! which then asks for memory at an entry.
 
-use crate::again::{Play, Script};
-use crate::both::{Trial, refusals};
-use crate::worlds::SMALL;
+use crate::export::both::{Trial, refusals};
+use crate::export::sent_again::{Play, Script};
+use crate::samples::SMALL;
 use std::alloc::{AllocError, Global};
 use std::process::Abort;
 
