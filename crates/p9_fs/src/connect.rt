@@ -5,7 +5,7 @@ ghost use Rattle.std.specs.Prelude.{◌≤◌, IfOk};
 use crate::failure::{Failure, report, report_about, report_text};
 use crate::watched::Watched;
 use clap::ArgMatches;
-use p9_client::{ClientError, FileError, MSIZE_MIN, Session};
+use p9_client::{ClientError, FileError, MSIZE_MIN, Session, Stream};
 use p9_wire::MSIZE_MAX;
 use std::alloc::{AllocError, Global};
 use std::io::ErrorKind;
@@ -13,8 +13,8 @@ use std::net::{TcpStream, ToSocketAddrs};
 use std::time::{Duration, Instant};
 use std::{env, io};
 
-/// The session of the program.
-pub type Client = Session<Watched, Global>;
+/// A session of the program over a stream.
+pub type Client<S> = Session<S, Global>;
 
 /// The fid of the root.
 pub const ROOT: u32 = 0;
@@ -33,7 +33,7 @@ pub fn connect(
     rt: &HostRuntime,
     words: &ArgMatches<'_>,
     is_reported: bool,
-) -> Result<Client, Failure> {
+) -> Result<Client<Watched>, Failure> {
     let address = words.get_str("addr").unwrap_or("");
     let msize = msize_of(rt, words)?;
     let timeout = timeout_of(rt, words)?;
@@ -82,9 +82,9 @@ fn not_connected(rt: &HostRuntime, address: &str, error: &io::Error) -> Failure 
 }
 
 // Begins a session with the server of an address, and attaches its root.
-fn begin(
+fn begin<S: Stream + Drop>(
     rt: &HostRuntime,
-    client: &mut Client,
+    client: &mut Client<S>,
     words: &ArgMatches<'_>,
     address: &str,
 ) -> Result<(), Failure> {

@@ -7,7 +7,7 @@ use crate::names::{is_inside, joined};
 use crate::owners::Owners;
 use crate::remote::{FILE, PERMISSIONS, clunk_after, entries_of, open_file, stat_of};
 use crate::sink::Sink;
-use p9_client::{Entry, FileError};
+use p9_client::{Entry, FileError, Stream};
 use p9_files::NewFile;
 use std::alloc::{AllocError, Global};
 use std::fs::{self, DirBuilder, File, Permissions};
@@ -60,9 +60,9 @@ struct Made {
 /// Copies a file of the server to a file of the system, which is as it was until all has come. A
 /// directory is refused, or copied with all that is in it: then what can't be copied is reported, and
 /// the rest is copied.
-pub fn get(
+pub fn get<S: Stream + Drop>(
     rt: &HostRuntime,
-    client: &mut Client,
+    client: &mut Client<S>,
     path: &str,
     local: &str,
     options: GetOptions<'_>,
@@ -78,9 +78,9 @@ pub fn get(
 }
 
 // The file of a path, which is to be copied.
-fn first_of(
+fn first_of<S: Stream + Drop>(
     rt: &HostRuntime,
-    client: &mut Client,
+    client: &mut Client<S>,
     path: &str,
     local: &str,
 ) -> Result<Pending, Failure> {
@@ -152,10 +152,10 @@ impl Getting {
     }
 
     // Copies a file, or a directory with all that is in it.
-    fn get_all(
+    fn get_all<S: Stream + Drop>(
         &mut self,
         rt: &HostRuntime,
-        client: &mut Client,
+        client: &mut Client<S>,
         first: Pending,
     ) -> Result<(), Failure> {
         self.left.count(rt, first.path.as_str(), first.depth)?;
@@ -166,10 +166,10 @@ impl Getting {
 
     // Copies what is to be copied, the last one first. What can't be copied is reported, and the rest is
     // copied.
-    fn get_pending(
+    fn get_pending<S: Stream + Drop>(
         &mut self,
         rt: &HostRuntime,
-        client: &mut Client,
+        client: &mut Client<S>,
         pending: &mut Vec<Pending>,
     ) -> Result<(), Failure> {
         let mut outcome = Outcome::new();
@@ -183,10 +183,10 @@ impl Getting {
     }
 
     // Copies the next file, or makes the next directory and adds what is in it.
-    fn get_next(
+    fn get_next<S: Stream + Drop>(
         &mut self,
         rt: &HostRuntime,
-        client: &mut Client,
+        client: &mut Client<S>,
         next: Pending,
         pending: &mut Vec<Pending>,
     ) -> Result<(), Failure> {
@@ -204,10 +204,10 @@ impl Getting {
     }
 
     // Adds the entries of a directory.
-    fn push_entries(
+    fn push_entries<S: Stream + Drop>(
         &mut self,
         rt: &HostRuntime,
-        client: &mut Client,
+        client: &mut Client<S>,
         dir: &Pending,
         pending: &mut Vec<Pending>,
     ) -> Result<(), Failure> {
@@ -237,10 +237,10 @@ impl Getting {
     }
 
     // Copies a file.
-    fn get_file(
+    fn get_file<S: Stream + Drop>(
         &mut self,
         rt: &HostRuntime,
-        client: &mut Client,
+        client: &mut Client<S>,
         next: &Pending,
     ) -> Result<(), Failure> {
         let path = next.path.as_str();
@@ -255,10 +255,10 @@ impl Getting {
     }
 
     // Writes the bytes of the server's open file to a new file, which takes its place once it is whole.
-    fn fill(
+    fn fill<S: Stream + Drop>(
         &mut self,
         rt: &HostRuntime,
-        client: &mut Client,
+        client: &mut Client<S>,
         next: &Pending,
         file: NewFile<File, Global>,
     ) -> Result<(), Failure> {
@@ -301,10 +301,10 @@ impl Getting {
     }
 
     // Reads the server's open file, as far as the limits go.
-    fn read_in(
+    fn read_in<S: Stream + Drop>(
         &mut self,
         rt: &HostRuntime,
-        client: &mut Client,
+        client: &mut Client<S>,
         next: &Pending,
         sink: &mut Sink,
     ) -> Result<(), Failure> {

@@ -23,6 +23,7 @@ use crate::shell::{run_line, run_lines};
 use crate::usage::finish_words;
 use crate::words::{SHAPE, Verb, verb_of};
 use clap::ArgMatches;
+use p9_client::Stream;
 use p9_shell::{given_words, program_of};
 use std::io::{IsTerminal, Write};
 use std::process::ExitCode;
@@ -65,7 +66,11 @@ fn run_matches(rt: &HostRuntime, matches: &ArgMatches<'_>) -> Result<(), Failure
 }
 
 // Runs one command, or those of the standard input.
-fn run_verb(rt: &HostRuntime, client: &mut Client, verb: Verb<'_>) -> Result<(), Failure> {
+fn run_verb<S: Stream + Drop>(
+    rt: &HostRuntime,
+    client: &mut Client<S>,
+    verb: Verb<'_>,
+) -> Result<(), Failure> {
     match verb {
         Verb::Shell => run_lines(rt, client),
         verb => run_line(rt, client, verb),

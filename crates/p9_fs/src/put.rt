@@ -8,7 +8,7 @@ use crate::remote::{
     walk_to_parent, with_permissions,
 };
 use p9_base::DMAPPEND;
-use p9_client::{ClientError, FileError};
+use p9_client::{ClientError, FileError, Stream};
 use p9_files::Dir;
 use p9_wire::Stat;
 use std::alloc::{AllocError, Global};
@@ -28,9 +28,9 @@ const OWNER_ALL: u32 = 0o700;
 /// Copies a file of the system to a file of the server, which is made with the same permissions where
 /// it is not there. A directory is refused, or copied with all that is in it: then links and devices
 /// are reported and left out, and what can't be copied is reported, and the rest is copied.
-pub fn put(
+pub fn put<S: Stream + Drop>(
     rt: &HostRuntime,
-    client: &mut Client,
+    client: &mut Client<S>,
     local: &str,
     path: &str,
     is_recursive: bool,
@@ -48,9 +48,9 @@ pub fn put(
 
 // Writes these bytes of a file of the system to a file of the server. Where the server refuses so many,
 // its file is as it was.
-fn put_bytes(
+fn put_bytes<S: Stream + Drop>(
     rt: &HostRuntime,
-    client: &mut Client,
+    client: &mut Client<S>,
     path: &str,
     metadata: &Metadata,
     bytes: &[u8],
@@ -83,7 +83,11 @@ enum Target {
 
 // Writes bytes to an open file. The length of one that was made is set first, so that a server refuses
 // too many bytes before they are sent.
-fn write_bytes(client: &mut Client, target: Target, bytes: &[u8]) -> Result<(), FileError> {
+fn write_bytes<S: Stream + Drop>(
+    client: &mut Client<S>,
+    target: Target,
+    bytes: &[u8],
+) -> Result<(), FileError> {
     if matches!(target, Target::Made) {
         client.wstat(FILE, of_length(bytes.len() as u64))?;
     }
@@ -98,9 +102,9 @@ fn of_length<'a>(length: u64) -> Stat<'a> {
 }
 
 // Ends what was refused: a file that was made is removed.
-fn end_refused(
+fn end_refused<S: Stream + Drop>(
     rt: &HostRuntime,
-    client: &mut Client,
+    client: &mut Client<S>,
     path: &str,
     target: Target,
     failure: Failure,
@@ -113,7 +117,12 @@ fn end_refused(
 }
 
 // Gives a file that was made its permissions, of which the directory's may have taken some off.
-fn give_mode(rt: &HostRuntime, client: &mut Client, path: &str, mode: u32) -> Result<(), Failure> {
+fn give_mode<S: Stream + Drop>(
+    rt: &HostRuntime,
+    client: &mut Client<S>,
+    path: &str,
+    mode: u32,
+) -> Result<(), Failure> {
     match try_give_mode(rt, client, mode) {
         Ok(()) => Ok(()),
         Err(error) => Err(report(rt, path, &FileError::Session(error))),
@@ -121,7 +130,11 @@ fn give_mode(rt: &HostRuntime, client: &mut Client, path: &str, mode: u32) -> Re
 }
 
 // The same, with the server's error.
-fn try_give_mode(rt: &HostRuntime, client: &mut Client, mode: u32) -> Result<(), ClientError> {
+fn try_give_mode<S: Stream + Drop>(
+    rt: &HostRuntime,
+    client: &mut Client<S>,
+    mode: u32,
+) -> Result<(), ClientError> {
     let entry = client.stat(rt.alloc(), FILE)?;
     if entry.mode & PERMISSIONS == mode {
         return Ok(());
@@ -132,9 +145,9 @@ fn try_give_mode(rt: &HostRuntime, client: &mut Client, mode: u32) -> Result<(),
 }
 
 // Opens the file of a path to get bytes of this length, or makes it.
-fn begin_write(
+fn begin_write<S: Stream + Drop>(
     rt: &HostRuntime,
-    client: &mut Client,
+    client: &mut Client<S>,
     path: &str,
     mode: u32,
     length: u64,
@@ -150,9 +163,9 @@ fn begin_write(
 }
 
 // Opens the file of a path after it could not be made.
-fn open_instead(
+fn open_instead<S: Stream + Drop>(
     rt: &HostRuntime,
-    client: &mut Client,
+    client: &mut Client<S>,
     path: &str,
     length: u64,
     error: ClientError,
@@ -166,7 +179,12 @@ fn open_instead(
 }
 
 // Opens the file of a path to get bytes of this length. Returns whether it is there.
-fn opened(rt: &HostRuntime, client: &mut Client, path: &str, length: u64) -> Result<bool, Failure> {
+fn opened<S: Stream + Drop>(
+    rt: &HostRuntime,
+    client: &mut Client<S>,
+    path: &str,
+    length: u64,
+) -> Result<bool, Failure> {
     match walk(rt.alloc(), client, path) {
         Ok(()) => {}
         Err(error) if error.ends_session() => return Err(report(rt, path, &error)),
@@ -184,7 +202,11 @@ fn opened(rt: &HostRuntime, client: &mut Client, path: &str, length: u64) -> Res
 
 // Opens the file to be written. Its length is set first, so that a server that refuses so many bytes
 // does so while the file is as it was. To a file that is only appended to bytes are added.
-fn try_open(rt: &HostRuntime, client: &mut Client, length: u64) -> Result<(), ClientError> {
+fn try_open<S: Stream + Drop>(
+    rt: &HostRuntime,
+    client: &mut Client<S>,
+    length: u64,
+) -> Result<(), ClientError> {
     let entry = client.stat(rt.alloc(), FILE)?;
     let is_rewritten = !entry.is_dir() && entry.mode & DMAPPEND == 0;
     if is_rewritten {
@@ -228,7 +250,12 @@ struct Putting {
 }
 
 // Copies a directory with all that is in it.
-fn put_tree(rt: &HostRuntime, client: &mut Client, local: &str, path: &str) -> Result<(), Failure> {
+fn put_tree<S: Stream + Drop>(
+    rt: &HostRuntime,
+    client: &mut Client<S>,
+    local: &str,
+    path: &str,
+) -> Result<(), Failure> {
     let mut putting = Putting {
         levels: Vec::new(rt.alloc()),
         made: Vec::new(rt.alloc()),
@@ -254,10 +281,10 @@ fn paths_in(alloc: Global, dir: &Paths, name: &str) -> Result<Paths, AllocError>
 
 impl Putting {
     // Begins the directory of a path.
-    fn push_first(
+    fn push_first<S: Stream + Drop>(
         &mut self,
         rt: &HostRuntime,
-        client: &mut Client,
+        client: &mut Client<S>,
         local: &str,
         path: &str,
     ) -> Result<(), Failure> {
@@ -267,7 +294,11 @@ impl Putting {
     }
 
     // Copies what is in the directories, and then gives those that were made their permissions.
-    fn put_all(&mut self, rt: &HostRuntime, client: &mut Client) -> Result<(), Failure> {
+    fn put_all<S: Stream + Drop>(
+        &mut self,
+        rt: &HostRuntime,
+        client: &mut Client<S>,
+    ) -> Result<(), Failure> {
         let done = self.put_levels(rt, client);
         self.set_modes(rt, client)?;
         done?;
@@ -275,10 +306,10 @@ impl Putting {
     }
 
     // Begins a directory: makes that of the server, and adds its entries.
-    fn push(
+    fn push<S: Stream + Drop>(
         &mut self,
         rt: &HostRuntime,
-        client: &mut Client,
+        client: &mut Client<S>,
         dir: Dir,
         paths: Paths,
     ) -> Result<(), Failure> {
@@ -288,10 +319,10 @@ impl Putting {
     }
 
     // Makes the directory of the server for one of the system, and returns the names of its entries.
-    fn begin_dir(
+    fn begin_dir<S: Stream + Drop>(
         &mut self,
         rt: &HostRuntime,
-        client: &mut Client,
+        client: &mut Client<S>,
         dir: &Dir,
         paths: &Paths,
     ) -> Result<Vec<String>, Failure> {
@@ -319,10 +350,10 @@ impl Putting {
     }
 
     // Makes a directory of the server, unless it is there, and notes one whose permissions are to be set.
-    fn make(
+    fn make<S: Stream + Drop>(
         &mut self,
         rt: &HostRuntime,
-        client: &mut Client,
+        client: &mut Client<S>,
         path: &str,
         mode: u32,
     ) -> Result<(), Failure> {
@@ -334,7 +365,11 @@ impl Putting {
     }
 
     // Copies what is in the directories.
-    fn put_levels(&mut self, rt: &HostRuntime, client: &mut Client) -> Result<(), Failure> {
+    fn put_levels<S: Stream + Drop>(
+        &mut self,
+        rt: &HostRuntime,
+        client: &mut Client<S>,
+    ) -> Result<(), Failure> {
         for _ in 0..u64::MAX {
             let Some(level) = self.levels.last_mut() else {
                 break;
@@ -349,10 +384,10 @@ impl Putting {
     }
 
     // Copies the entry of this name of the last directory, and notes how that ended.
-    fn put_name(
+    fn put_name<S: Stream + Drop>(
         &mut self,
         rt: &HostRuntime,
-        client: &mut Client,
+        client: &mut Client<S>,
         name: &str,
     ) -> Result<(), Failure> {
         let Some(level) = self.levels.last() else {
@@ -364,10 +399,10 @@ impl Putting {
     }
 
     // Copies the entry of this name of the last directory.
-    fn put_entry(
+    fn put_entry<S: Stream + Drop>(
         &mut self,
         rt: &HostRuntime,
-        client: &mut Client,
+        client: &mut Client<S>,
         name: &str,
         paths: Paths,
     ) -> Result<(), Failure> {
@@ -383,7 +418,11 @@ impl Putting {
     }
 
     // Gives the directories that were made their permissions, the last one first.
-    fn set_modes(&mut self, rt: &HostRuntime, client: &mut Client) -> Result<(), Failure> {
+    fn set_modes<S: Stream + Drop>(
+        &mut self,
+        rt: &HostRuntime,
+        client: &mut Client<S>,
+    ) -> Result<(), Failure> {
         for dir in self.made.iter().rev() {
             let set = change_mode(rt, client, dir.path.as_str(), dir.mode);
             self.outcome.note(set)?;
@@ -393,9 +432,9 @@ impl Putting {
 }
 
 // Copies the file of this name of a directory. A link or a device is reported.
-fn put_file(
+fn put_file<S: Stream + Drop>(
     rt: &HostRuntime,
-    client: &mut Client,
+    client: &mut Client<S>,
     dir: &Dir,
     name: &str,
     paths: &Paths,
@@ -429,7 +468,12 @@ fn bytes_of(rt: &HostRuntime, file: File) -> io::Result<Vec<u8>> {
 }
 
 // Makes a directory of the server, unless it is there. Returns whether its permissions are to be set.
-fn make_dir(rt: &HostRuntime, client: &mut Client, path: &str, mode: u32) -> Result<bool, Failure> {
+fn make_dir<S: Stream + Drop>(
+    rt: &HostRuntime,
+    client: &mut Client<S>,
+    path: &str,
+    mode: u32,
+) -> Result<bool, Failure> {
     match found(rt, client, path)? {
         Some(entry) if entry.is_dir() => return Ok(false),
         Some(_) => return Err(report_about(rt, path, &"not a directory", Failure::Refused)),

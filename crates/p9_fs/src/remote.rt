@@ -5,7 +5,7 @@ use crate::failure::{Failure, finish_output, report, report_about, report_text};
 use crate::names::names_of;
 use crate::printing::{long_line, print, stat_line};
 use p9_base::{DMDIR, Name, Qid};
-use p9_client::{ClientError, Entry, FileError, LISTING_MAX, Opened};
+use p9_client::{ClientError, Entry, FileError, LISTING_MAX, Opened, Stream};
 use p9_shown::AsShown;
 use p9_wire::Stat;
 use std::alloc::{AllocError, Global};
@@ -26,7 +26,11 @@ pub const PERMISSIONS: u32 = 0o777;
 const NEW_DIR: u32 = 0o755;
 
 /// Makes the fid of the file of a path.
-pub fn walk_to(rt: &HostRuntime, client: &mut Client, path: &str) -> Result<(), Failure> {
+pub fn walk_to<S: Stream + Drop>(
+    rt: &HostRuntime,
+    client: &mut Client<S>,
+    path: &str,
+) -> Result<(), Failure> {
     match walk(rt.alloc(), client, path) {
         Ok(()) => Ok(()),
         Err(error) => Err(report(rt, path, &error)),
@@ -34,15 +38,19 @@ pub fn walk_to(rt: &HostRuntime, client: &mut Client, path: &str) -> Result<(), 
 }
 
 /// Makes the fid of the file of a path, and reports nothing.
-pub fn walk(alloc: Global, client: &mut Client, path: &str) -> Result<(), FileError> {
+pub fn walk<S: Stream + Drop>(
+    alloc: Global,
+    client: &mut Client<S>,
+    path: &str,
+) -> Result<(), FileError> {
     let names = names_of(alloc, path)?;
     client.walk_path(ROOT, FILE, names.as_slice())
 }
 
 /// Makes the fid of the directory that the file of a path is in, and returns the file's name.
-pub fn walk_to_parent<'a>(
+pub fn walk_to_parent<'a, S: Stream + Drop>(
     rt: &HostRuntime,
-    client: &mut Client,
+    client: &mut Client<S>,
     path: &'a str,
 ) -> Result<&'a str, Failure> {
     let names = names_of(rt.alloc(), path)?;
@@ -57,9 +65,9 @@ pub fn walk_to_parent<'a>(
 }
 
 /// Forgets the fid of the file after what was done with it, of which a failure was reported.
-pub fn clunk_after<T: Drop>(
+pub fn clunk_after<S: Stream + Drop, T: Drop>(
     rt: &HostRuntime,
-    client: &mut Client,
+    client: &mut Client<S>,
     path: &str,
     done: Result<T, Failure>,
 ) -> Result<T, Failure> {
@@ -71,9 +79,9 @@ pub fn clunk_after<T: Drop>(
 }
 
 /// Forgets the fid of the file, and returns what was done with it, of which a failure is reported.
-pub fn finish<T: Drop>(
+pub fn finish<S: Stream + Drop, T: Drop>(
     rt: &HostRuntime,
-    client: &mut Client,
+    client: &mut Client<S>,
     path: &str,
     done: Result<T, FileError>,
 ) -> Result<T, Failure> {
@@ -86,9 +94,9 @@ pub fn finish<T: Drop>(
 }
 
 /// What the server reports of the file of a path.
-pub fn stat_of(
+pub fn stat_of<S: Stream + Drop>(
     rt: &HostRuntime,
-    client: &mut Client,
+    client: &mut Client<S>,
     path: &str,
 ) -> Result<Entry<Global>, Failure> {
     walk_to(rt, client, path)?;
@@ -97,9 +105,9 @@ pub fn stat_of(
 }
 
 /// The entries of the directory of a path, which are so many bytes at most.
-pub fn entries_of(
+pub fn entries_of<S: Stream + Drop>(
     rt: &HostRuntime,
-    client: &mut Client,
+    client: &mut Client<S>,
     path: &str,
     most: u32,
 ) -> Result<Vec<Entry<Global>>, Failure> {
@@ -109,7 +117,11 @@ pub fn entries_of(
 }
 
 // Opens the directory, and lists it.
-fn listed(alloc: Global, client: &mut Client, most: u32) -> Result<Vec<Entry<Global>>, FileError> {
+fn listed<S: Stream + Drop>(
+    alloc: Global,
+    client: &mut Client<S>,
+    most: u32,
+) -> Result<Vec<Entry<Global>>, FileError> {
     client.open(FILE, OREAD)?;
     client.list_within(alloc, FILE, most)
 }
@@ -124,9 +136,9 @@ pub enum Listing {
 }
 
 /// Lists the entries of a directory, or a file.
-pub fn list(
+pub fn list<S: Stream + Drop>(
     rt: &HostRuntime,
-    client: &mut Client,
+    client: &mut Client<S>,
     path: &str,
     listing: Listing,
 ) -> Result<(), Failure> {
@@ -183,13 +195,21 @@ fn print_entry(rt: &HostRuntime, entry: &Entry<Global>, listing: Listing) -> Res
 }
 
 /// Prints all that the server reports of a file.
-pub fn print_stat(rt: &HostRuntime, client: &mut Client, path: &str) -> Result<(), Failure> {
+pub fn print_stat<S: Stream + Drop>(
+    rt: &HostRuntime,
+    client: &mut Client<S>,
+    path: &str,
+) -> Result<(), Failure> {
     let entry = stat_of(rt, client, path)?;
     print(rt, &stat_line(rt.alloc(), &entry)?)
 }
 
 /// Writes the bytes of a file to the standard output. A directory is refused.
-pub fn cat(rt: &HostRuntime, client: &mut Client, path: &str) -> Result<(), Failure> {
+pub fn cat<S: Stream + Drop>(
+    rt: &HostRuntime,
+    client: &mut Client<S>,
+    path: &str,
+) -> Result<(), Failure> {
     if stat_of(rt, client, path)?.is_dir() {
         return Err(report_about(rt, path, &"is a directory", Failure::Refused));
     }
@@ -199,7 +219,11 @@ pub fn cat(rt: &HostRuntime, client: &mut Client, path: &str) -> Result<(), Fail
 }
 
 /// Opens the file of a path to read it. One that is a directory now is refused.
-pub fn open_file(rt: &HostRuntime, client: &mut Client, path: &str) -> Result<(), Failure> {
+pub fn open_file<S: Stream + Drop>(
+    rt: &HostRuntime,
+    client: &mut Client<S>,
+    path: &str,
+) -> Result<(), Failure> {
     walk_to(rt, client, path)?;
     match client.open(FILE, OREAD) {
         Ok(Opened { qid, .. }) if qid.kind & QTDIR == 0 => Ok(()),
@@ -215,7 +239,11 @@ pub fn open_file(rt: &HostRuntime, client: &mut Client, path: &str) -> Result<()
 }
 
 // Writes the bytes of the open file to the standard output.
-fn read_out(rt: &HostRuntime, client: &mut Client, path: &str) -> Result<(), Failure> {
+fn read_out<S: Stream + Drop>(
+    rt: &HostRuntime,
+    client: &mut Client<S>,
+    path: &str,
+) -> Result<(), Failure> {
     match client.read_to(FILE, &mut rt.stdout()) {
         Ok(_) => Ok(()),
         Err(FileError::Output(error)) => finish_output(rt, Err(error)),
@@ -224,7 +252,11 @@ fn read_out(rt: &HostRuntime, client: &mut Client, path: &str) -> Result<(), Fai
 }
 
 /// Makes a directory.
-pub fn make_dir(rt: &HostRuntime, client: &mut Client, path: &str) -> Result<(), Failure> {
+pub fn make_dir<S: Stream + Drop>(
+    rt: &HostRuntime,
+    client: &mut Client<S>,
+    path: &str,
+) -> Result<(), Failure> {
     match try_make_dir(rt, client, path, NEW_DIR) {
         Ok(()) => Ok(()),
         Err(error) => Err(error.report(rt, path)),
@@ -264,9 +296,9 @@ impl From<Failure> for NotMade {
 }
 
 /// Makes a directory with these permissions.
-pub fn try_make_dir(
+pub fn try_make_dir<S: Stream + Drop>(
     rt: &HostRuntime,
-    client: &mut Client,
+    client: &mut Client<S>,
     path: &str,
     permissions: u32,
 ) -> Result<(), NotMade> {
@@ -278,7 +310,11 @@ pub fn try_make_dir(
 }
 
 /// Makes a directory, and those above it that are not there. A directory that is there is no error.
-pub fn make_dirs(rt: &HostRuntime, client: &mut Client, path: &str) -> Result<(), Failure> {
+pub fn make_dirs<S: Stream + Drop>(
+    rt: &HostRuntime,
+    client: &mut Client<S>,
+    path: &str,
+) -> Result<(), Failure> {
     let names = names_of(rt.alloc(), path)?;
     let mut here = String::from_str(rt.alloc(), "/")?;
     for name in names.as_slice() {
@@ -288,9 +324,9 @@ pub fn make_dirs(rt: &HostRuntime, client: &mut Client, path: &str) -> Result<()
 }
 
 // Makes the directory of a name below a path, unless it is there, and adds the name to the path.
-fn make_below(
+fn make_below<S: Stream + Drop>(
     rt: &HostRuntime,
-    client: &mut Client,
+    client: &mut Client<S>,
     here: &mut String,
     name: &str,
 ) -> Result<(), Failure> {
@@ -302,7 +338,11 @@ fn make_below(
 }
 
 // Makes a directory, unless it is there.
-fn make_missing(rt: &HostRuntime, client: &mut Client, path: &str) -> Result<(), Failure> {
+fn make_missing<S: Stream + Drop>(
+    rt: &HostRuntime,
+    client: &mut Client<S>,
+    path: &str,
+) -> Result<(), Failure> {
     if let Some(entry) = found(rt, client, path)? {
         return need_dir(rt, path, &entry);
     }
@@ -326,9 +366,9 @@ fn need_dir(rt: &HostRuntime, path: &str, entry: &Entry<Global>) -> Result<(), F
 }
 
 /// What the server reports of the file of a path, or nothing where it refuses to walk there.
-pub fn found(
+pub fn found<S: Stream + Drop>(
     rt: &HostRuntime,
-    client: &mut Client,
+    client: &mut Client<S>,
     path: &str,
 ) -> Result<Option<Entry<Global>>, Failure> {
     match walk(rt.alloc(), client, path) {
@@ -342,7 +382,11 @@ pub fn found(
 }
 
 /// Removes a file or an empty directory.
-pub fn remove(rt: &HostRuntime, client: &mut Client, path: &str) -> Result<(), Failure> {
+pub fn remove<S: Stream + Drop>(
+    rt: &HostRuntime,
+    client: &mut Client<S>,
+    path: &str,
+) -> Result<(), Failure> {
     walk_to(rt, client, path)?;
     // The fid is forgotten also where this is refused.
     match client.remove(FILE) {
@@ -352,9 +396,9 @@ pub fn remove(rt: &HostRuntime, client: &mut Client, path: &str) -> Result<(), F
 }
 
 /// Gives a file another name, in the same directory. What is no name is refused.
-pub fn rename(
+pub fn rename<S: Stream + Drop>(
     rt: &HostRuntime,
-    client: &mut Client,
+    client: &mut Client<S>,
     path: &str,
     name: &str,
 ) -> Result<(), Failure> {
@@ -369,9 +413,9 @@ pub fn rename(
 }
 
 /// Gives a file other permissions. The other bits of its mode are as they were.
-pub fn change_mode(
+pub fn change_mode<S: Stream + Drop>(
     rt: &HostRuntime,
-    client: &mut Client,
+    client: &mut Client<S>,
     path: &str,
     permissions: u32,
 ) -> Result<(), Failure> {
@@ -387,9 +431,9 @@ pub fn with_permissions(mode: u32, permissions: u32) -> u32 {
 }
 
 // Changes what is given of the stat of a file.
-fn change(
+fn change<S: Stream + Drop>(
     rt: &HostRuntime,
-    client: &mut Client,
+    client: &mut Client<S>,
     path: &str,
     stat: Stat<'_>,
 ) -> Result<(), Failure> {

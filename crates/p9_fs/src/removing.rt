@@ -6,7 +6,7 @@ use crate::limits::{LIMITS, Left};
 use crate::names::{is_inside, joined};
 use crate::remote::{entries_of, remove, stat_of};
 use p9_base::NoMemory;
-use p9_client::Entry;
+use p9_client::{Entry, Stream};
 use std::alloc::Global;
 
 // A file or directory that is to be removed.
@@ -21,7 +21,11 @@ struct Doomed {
 
 /// Removes a file, or a directory with all that is in it. What can't be removed is reported, and the
 /// rest is removed.
-pub fn remove_tree(rt: &HostRuntime, client: &mut Client, path: &str) -> Result<(), Failure> {
+pub fn remove_tree<S: Stream + Drop>(
+    rt: &HostRuntime,
+    client: &mut Client<S>,
+    path: &str,
+) -> Result<(), Failure> {
     let is_dir = stat_of(rt, client, path)?.is_dir();
     let mut doomed = first_doomed(rt.alloc(), path, is_dir)?;
     remove_all(rt, client, &mut doomed)
@@ -42,9 +46,9 @@ fn first_doomed(alloc: Global, path: &str, is_dir: bool) -> Result<Vec<Doomed>, 
 
 // Removes what is to be removed, the last one first. What can't be removed is reported, and the rest is
 // removed.
-fn remove_all(
+fn remove_all<S: Stream + Drop>(
     rt: &HostRuntime,
-    client: &mut Client,
+    client: &mut Client<S>,
     doomed: &mut Vec<Doomed>,
 ) -> Result<(), Failure> {
     let mut left = Left::all(LIMITS);
@@ -59,9 +63,9 @@ fn remove_all(
 }
 
 // Removes the next file, or a directory of which all is removed; else adds what is in it before it.
-fn remove_next(
+fn remove_next<S: Stream + Drop>(
     rt: &HostRuntime,
-    client: &mut Client,
+    client: &mut Client<S>,
     next: Doomed,
     left: &mut Left,
     doomed: &mut Vec<Doomed>,

@@ -9,11 +9,16 @@ use crate::removing::remove_tree;
 use crate::usage::finish_words;
 use crate::words::{Verb, line_program, verb_of};
 use p9_base::{NoMemory, is_skipped, words};
+use p9_client::Stream;
 use std::alloc::Global;
 use std::io;
 
 /// Runs one command. `sh` within lines is refused as a bad word.
-pub fn run_line(rt: &HostRuntime, client: &mut Client, verb: Verb<'_>) -> Result<(), Failure> {
+pub fn run_line<S: Stream + Drop>(
+    rt: &HostRuntime,
+    client: &mut Client<S>,
+    verb: Verb<'_>,
+) -> Result<(), Failure> {
     match verb {
         Verb::List { path, listing } => list(rt, client, path, listing),
         Verb::Cat { path } => cat(rt, client, path),
@@ -41,7 +46,10 @@ pub fn run_line(rt: &HostRuntime, client: &mut Client, verb: Verb<'_>) -> Result
 /// Runs the commands of the standard input, a line each. Lines without words and those that begin
 /// with `#` are skipped. After a refusal, a file of this system that can't be used, or words that are no
 /// command, it goes on; the first of these is what it fails with at the end.
-pub fn run_lines(rt: &HostRuntime, client: &mut Client) -> Result<(), Failure> {
+pub fn run_lines<S: Stream + Drop>(
+    rt: &HostRuntime,
+    client: &mut Client<S>,
+) -> Result<(), Failure> {
     let mut outcome = Outcome::new();
     for line in rt.lines(rt.alloc()) {
         outcome.note(run_read(rt, client, line))?;
@@ -50,9 +58,9 @@ pub fn run_lines(rt: &HostRuntime, client: &mut Client) -> Result<(), Failure> {
 }
 
 // Runs the command of a line that was read. Where it could not be read, that is reported, and ends all.
-fn run_read(
+fn run_read<S: Stream + Drop>(
     rt: &HostRuntime,
-    client: &mut Client,
+    client: &mut Client<S>,
     line: io::Result<String>,
 ) -> Result<(), Failure> {
     match line {
@@ -62,7 +70,11 @@ fn run_read(
 }
 
 // Runs the command of a line.
-fn run_text(rt: &HostRuntime, client: &mut Client, line: &str) -> Result<(), Failure> {
+fn run_text<S: Stream + Drop>(
+    rt: &HostRuntime,
+    client: &mut Client<S>,
+    line: &str,
+) -> Result<(), Failure> {
     let words = words(rt.alloc(), line)?;
     if is_skipped(words.as_slice()) {
         return Ok(());
@@ -80,7 +92,11 @@ fn after_name<'a>(alloc: Global, words: &[&'a str]) -> Result<Vec<&'a str>, NoMe
 }
 
 // Runs the command of these words.
-fn run_words(rt: &HostRuntime, client: &mut Client, words: &[&str]) -> Result<(), Failure> {
+fn run_words<S: Stream + Drop>(
+    rt: &HostRuntime,
+    client: &mut Client<S>,
+    words: &[&str],
+) -> Result<(), Failure> {
     let matches = match line_program(rt.alloc())?.try_get_matches_from(words) {
         Ok(matches) => matches,
         Err(error) => return finish_words(rt, &error),

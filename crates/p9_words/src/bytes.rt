@@ -11,7 +11,7 @@ use p9_base::{NoMemory, Qid};
 use std::alloc::Allocator;
 
 /// A number, the lowest byte first.
-#[tactic(auto, unfolding(p9_wire::specs::Fields::number))]
+#[tactic(auto, unfolding(p9_fields::specs::Fields::number))]
 pub fn put_number<A: Allocator + Copy>(
     width: Width,
     n: u64,

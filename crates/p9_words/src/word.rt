@@ -237,7 +237,7 @@ fn is_short_text(bytes: &[u8]) -> bool
 }
 
 // Whether the bytes are UTF-8 without NUL.
-#[tactic(auto, using(p9_wire::proofs::Texts::no_text_without_utf8))]
+#[tactic(auto, using(p9_fields::proofs::Texts::no_text_without_utf8))]
 fn is_text_of(bytes: &[u8]) -> bool
     ensures { result ≡ text_test bytes.now }
 {
