@@ -13,8 +13,8 @@ use Rattle.p9_tree.specs.Server.{Server}
 use Rattle.p9_tree.specs.Forest.{IsForest, child_in_after, children_of, next_of, server_at}
 use Rattle.p9_tree.proofs.Lookups.{passes-found, rising_head, rising_tail}
 use Rattle.p9_inside.proofs.Forests.{server_below, server_ordered}
+use Rattle.p9_policy.proofs.Basics.{some_same}
 use Rattle.p9_cert.specs.Gap.{first_of}
-use Rattle.p9_cert.proofs.Basics.{some_same}
 
 -- what holds of all holds of what is found
 pub all_found : (P : Node → Type 0) (p : Node → Bool) (xs : List Node) (x : Node) → All P xs

@@ -22,6 +22,11 @@ use Rattle.p9_space.specs.declared.row.Member.{Member}
 use Rattle.p9_space.specs.Given.{is_given, is_row_given, is_table_given}
 use Rattle.p9_space.specs.Place.{root_place}
 use Rattle.p9_space.specs.Table.{MountRow, members_of}
+use Rattle.p9_policy.specs.Listed.{is_alterable, is_open, is_owned, is_passable}
+use Rattle.p9_policy.specs.Policy.{Policy}
+use Rattle.p9_policy.specs.Rows.{is_row}
+use Rattle.p9_policy.proofs.Basics.{clash, each_weaker, eq_of, not_some, same_ref, same_self}
+use Rattle.p9_policy.proofs.Basics.{some_same}
 use Rattle.p9_cert.specs.declared.gap.Gap.{Gap}
 use Rattle.p9_cert.specs.declared.gap.Gap.TheVariants.{Table, Row, Root, Child}
 use Rattle.p9_cert.specs.declared.gap.MemberFault.TheVariants.{Inside, Open, Owned, Removable}
@@ -32,15 +37,10 @@ use Rattle.p9_cert.specs.Gap.{hidden_fault, is_removable, member_fault, members_
 use Rattle.p9_cert.specs.Gap.{node_fault, node_gap, place_fault, root_gap, row_fault, row_gap}
 use Rattle.p9_cert.specs.Gap.{table_gap, where_true}
 use Rattle.p9_cert.specs.Laws.{NoGapIsClosed}
-use Rattle.p9_cert.specs.Listed.{is_alterable, is_open, is_owned, is_passable}
-use Rattle.p9_cert.specs.Policy.{Policy}
-use Rattle.p9_cert.specs.Rows.{is_row}
 use Rattle.p9_cert.specs.Safe.{IsGuarded, IsSafe, IsSafeMember}
-use Rattle.p9_cert.proofs.Basics.{clash, each_weaker, eq_of, not_some, same_ref, same_self}
-use Rattle.p9_cert.proofs.Basics.{some_same}
 use Rattle.p9_cert.proofs.Firsts.{counted-none, first_none, no_map, no_or, no_where, none-counted}
 use Rattle.p9_cert.proofs.Firsts.{none_first, or_none}
-use Rattle.p9_cert.proofs.Parents.{row_fault-none}
+use Rattle.p9_cert.proofs.Faults.{row_fault-none}
 
 -- Members.
 

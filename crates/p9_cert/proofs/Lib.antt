@@ -1,10 +1,4 @@
-pub mod Basics
 pub mod Firsts
-pub mod Searched
-pub mod ByClass
-pub mod Parents
+pub mod Faults
 pub mod Children
-pub mod Readings
 pub mod Gaps
-pub mod Written
-pub mod BadLines

@@ -5,12 +5,12 @@ use Rattle.p9_base.specs.NodeRef.{beside}
 use Rattle.p9_tree.specs.Node.{Node}
 use Rattle.p9_tree.specs.Server.{Server}
 use Rattle.p9_tree.specs.Forest.{is_dir_of, node_of}
-use Rattle.p9_tree.specs.Inside.{is_barred, is_hidden, is_inside}
+use Rattle.p9_tree.specs.Inside.{is_hidden, is_inside}
 use Rattle.p9_space.specs.Given.{is_table_given}
 use Rattle.p9_space.specs.Place.{root_place}
 use Rattle.p9_space.specs.Table.{MountRow}
-use Rattle.p9_cert.specs.Policy.{Policy}
-use Rattle.p9_cert.specs.Rows.{is_row}
+use Rattle.p9_policy.specs.Policy.{Policy}
+pub use Rattle.p9_policy.specs.Barred.{AreNotBarred}
 use Rattle.p9_cert.specs.Safe.{IsSafe, Set}
 
 module _ (policy : Policy) (forest : List Server) where
@@ -29,8 +29,3 @@ module _ (policy : Policy) (forest : List Server) where
     pub children : (at : NodeRef) (k : ℕ) (n : Node) → IsTrue (certified at)
         → node_of (beside at k) forest ≡ Some n → n.parent ≡ Some at.number
         → IsSafe policy forest table certified (beside at k)
-
--- none of the rows is hidden or inside a hidden directory
-pub record AreNotBarred (hidden : List NodeRef) (forest : List Server) (rows : List NodeRef) :
-    Type 0 where
-  pub each : (at : NodeRef) → IsTrue (is_row rows at) → IsFalse (is_barred at hidden forest)

@@ -14,6 +14,9 @@ use Rattle.p9_space.specs.declared.row.Member.{Member}
 use Rattle.p9_space.specs.Given.{is_given}
 use Rattle.p9_space.specs.Place.{root_place}
 use Rattle.p9_space.specs.Table.{MountRow, members_of}
+use Rattle.p9_policy.specs.Listed.{is_alterable, is_open, is_owned, is_passable}
+use Rattle.p9_policy.specs.Policy.{Policy}
+use Rattle.p9_policy.specs.Rows.{is_row}
 use Rattle.p9_cert.specs.declared.gap.Gap.{Gap}
 use Rattle.p9_cert.specs.declared.gap.Gap.TheVariants.{Table, Row, Root, Child}
 use Rattle.p9_cert.specs.declared.gap.MemberFault.{MemberFault}
@@ -23,9 +26,6 @@ use Rattle.p9_cert.specs.declared.gap.RowFault.{RowFault}
 use Rattle.p9_cert.specs.declared.gap.RowFault.TheVariants.{Absent}
 use Rattle.p9_cert.specs.declared.gap.RowFault.TheVariants.{Hidden as HiddenRow}
 use Rattle.p9_cert.specs.declared.gap.RowFault.TheVariants.{Inside as InsideRow}
-use Rattle.p9_cert.specs.Listed.{is_alterable, is_open, is_owned, is_passable}
-use Rattle.p9_cert.specs.Policy.{Policy}
-use Rattle.p9_cert.specs.Rows.{is_row}
 
 -- the first that there is
 abbrev pub first_of : {X Y : Type 0} → (X → Option Y) → List X → Option Y

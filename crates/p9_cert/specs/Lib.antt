@@ -1,10 +1,10 @@
-pub mod Policy
-pub mod Classes
-pub mod Listed
-pub mod Rows
+pub use Rattle.p9_policy.specs.Policy
+pub use Rattle.p9_policy.specs.Classes
+pub use Rattle.p9_policy.specs.Listed
+pub use Rattle.p9_policy.specs.Rows
 pub mod Safe
 pub mod Closed
 pub mod Gap
-pub mod Text
-pub mod Faults
+pub use Rattle.p9_policy.specs.Text
+pub use Rattle.p9_policy.specs.Faults
 pub mod Laws

@@ -8,8 +8,8 @@ use Rattle.p9_tree.specs.Server.{Server}
 use Rattle.p9_tree.specs.Forest.{node_of}
 use Rattle.p9_tree.specs.Inside.{is_hidden, is_inside}
 use Rattle.p9_space.specs.Table.{MountRow, members_of}
-use Rattle.p9_cert.specs.Policy.{Policy}
-use Rattle.p9_cert.specs.Listed.{is_alterable, is_open, is_owned, is_passable}
+use Rattle.p9_policy.specs.Policy.{Policy}
+use Rattle.p9_policy.specs.Listed.{is_alterable, is_open, is_owned, is_passable}
 
 -- a set of directories, by a test
 abbrev pub Set : Type 0

@@ -3,17 +3,17 @@
 ghost use Rattle.std.specs.Prelude.{◌≡◌, ◌↔◌, AllPairs, IsFalse, IsOk, IsTrue, OnOk};
 ghost use Rattle.std.specs.Result.{result_err};
 ghost use Rattle.p9_tree.specs.Inside.{is_barred};
-ghost use Rattle.p9_cert.specs.Closed.{AreNotBarred, IsClosed};
+ghost use Rattle.p9_policy.specs.Barred.{AreNotBarred};
+ghost use Rattle.p9_policy.specs.Policy.{policy_of};
+ghost use Rattle.p9_policy.specs.Rows.{is_below, is_row};
+ghost use Rattle.p9_cert.specs.Closed.{IsClosed};
 ghost use Rattle.p9_cert.specs.Gap.{children_gap, first_counted, first_gap, members_gap, mount_gap};
 ghost use Rattle.p9_cert.specs.Gap.{node_gap, place_gap, root_gap, row_fault, row_gap, table_gap};
-ghost use Rattle.p9_cert.specs.Policy.{policy_of};
-ghost use Rattle.p9_cert.specs.Rows.{is_below, is_row};
 
-use crate::certificate::Certificate;
 use crate::gap::{Gap, RowFault};
-use crate::inside::{is_hidden, is_inside};
 use crate::place::place_fault;
 use p9_base::NodeRef;
+use p9_policy::{Certificate, is_hidden, is_inside};
 use p9_space::{Member, MountTable, ROOT_PLACE, is_given};
 use p9_tree::{Forest, Tree};
 use p9_world::World;

@@ -6,26 +6,15 @@
 //! table, and returns the first [`Gap`].
 #![tactic(auto)]
 
-mod certificate;
 mod check;
-mod classes;
-mod faults;
 mod gap;
-mod inside;
 pub mod laws;
-mod listed;
 mod place;
-mod read;
-mod rows;
-mod write;
 
-pub use certificate::Certificate;
 pub use check::verify;
-pub use classes::Classes;
-pub use faults::{BadLine, LineFault, bad_lines};
 pub use gap::{Gap, MemberFault, RowFault};
-pub use inside::{is_hidden, is_inside};
-pub use listed::may_pass;
+pub use p9_policy::{
+    BadLine, Certificate, Classes, LineFault, ReadError, bad_lines, is_hidden, is_inside, may_pass,
+    read_cert, write_cert,
+};
 pub use place::member_fault;
-pub use read::{ReadError, read_cert};
-pub use write::write_cert;

@@ -1,18 +1,16 @@
 //! What is wrong with the members of a place.
 
 ghost use Rattle.std.specs.Prelude.{◌≡◌, AllPairs, IsTrue, Some, if◌then◌else◌};
-ghost use Rattle.p9_cert.specs.Closed.{AreNotBarred};
+ghost use Rattle.p9_policy.specs.Barred.{AreNotBarred};
+ghost use Rattle.p9_policy.specs.Listed.{is_open};
+ghost use Rattle.p9_policy.specs.Policy.{policy_of};
+ghost use Rattle.p9_policy.specs.Rows.{is_below};
 ghost use Rattle.p9_cert.specs.declared.gap.MemberFault.TheVariants.{Open, Owned};
 ghost use Rattle.p9_cert.specs.Gap.{hidden_fault, is_removable, member_fault, place_fault};
-ghost use Rattle.p9_cert.specs.Listed.{is_open};
-ghost use Rattle.p9_cert.specs.Policy.{policy_of};
-ghost use Rattle.p9_cert.specs.Rows.{is_below};
 
 use crate::gap::MemberFault;
-use crate::inside::{is_hidden, is_inside};
-use crate::listed::{Listed, listed_in};
-use crate::rows::is_row;
 use p9_base::NodeRef;
+use p9_policy::{Listed, is_hidden, is_inside, is_row, listed_in};
 use p9_space::MountTable;
 use p9_tree::{Node, Tree};
 use p9_world::World;

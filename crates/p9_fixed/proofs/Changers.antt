@@ -17,7 +17,7 @@ use Rattle.p9_step.specs.Open.{is_exclusive}
 use Rattle.p9_cert.specs.Gap.{first_of, is_removable, where_true}
 use Rattle.p9_cert.specs.Listed.{is_alterable, is_open, may_alter, may_use, some_listed}
 use Rattle.p9_cert.specs.Policy.{Policy}
-use Rattle.p9_cert.proofs.Basics.{not_some, some_same}
+use Rattle.p9_policy.proofs.Basics.{not_some, some_same}
 use Rattle.p9_judge.proofs.Lists.{any_found}
 use Rattle.p9_fixed.specs.declared.change.Change.{Change}
 use Rattle.p9_fixed.specs.declared.change.ChangeKind.{ChangeKind}

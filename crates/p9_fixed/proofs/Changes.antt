@@ -19,7 +19,7 @@ use Rattle.p9_cert.specs.Gap.{is_removable, where_true}
 use Rattle.p9_cert.specs.Listed.{is_alterable, is_open}
 use Rattle.p9_cert.specs.Policy.{Policy}
 use Rattle.p9_cert.specs.Rows.{is_row}
-use Rattle.p9_cert.proofs.Basics.{each_weaker, same_self}
+use Rattle.p9_policy.proofs.Basics.{each_weaker, same_self}
 use Rattle.p9_cert.proofs.Firsts.{first_none, no_map, no_or, none_first, or_none}
 use Rattle.p9_cert.proofs.Gaps.{guarded_from, hidden-none, removable_none, row_found}
 use Rattle.p9_judge.proofs.Found.{at_child, child_at}

@@ -13,9 +13,9 @@ use Rattle.p9_cert.specs.Closed.{IsClosed}
 use Rattle.p9_cert.specs.Gap.{first_gap}
 use Rattle.p9_cert.specs.Policy.{policy_of}
 use Rattle.p9_cert.specs.Rows.{is_row}
-use Rattle.p9_cert.proofs.Basics.{same_ref}
+use Rattle.p9_policy.proofs.Basics.{same_ref}
 use Rattle.p9_cert.proofs.Gaps.{no_gap_is_closed}
-use Rattle.p9_cert.proofs.Parents.{row_is_hidden}
+use Rattle.p9_policy.proofs.Parents.{row_is_hidden}
 use Rattle.p9_step.specs.Sound.{IsState}
 use Rattle.p9_step.specs.State.{State}
 use Rattle.p9_guard_laws.specs.Guarded.{AreHiddenGiven, IsGuardedState}

@@ -24,7 +24,7 @@ use Rattle.p9_cert.specs.Gap.{first_gap}
 use Rattle.p9_cert.specs.Policy.{Policy}
 use Rattle.p9_cert.specs.Rows.{IsCertificate, IsRow, is_below, is_row}
 use Rattle.p9_cert.specs.Safe.{IsSafe, IsSafeMember, Set}
-use Rattle.p9_cert.proofs.Basics.{not_some, same_ref}
+use Rattle.p9_policy.proofs.Basics.{not_some, same_ref}
 use Rattle.p9_cert.proofs.Gaps.{no_gap_is_closed}
 use Rattle.p9_guard_laws.proofs.Basics.{each_weaker}
 use Rattle.p9_guard_laws.proofs.Stays.{dir_there}

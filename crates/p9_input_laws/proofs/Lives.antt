@@ -20,8 +20,8 @@ use Rattle.p9_cert.specs.Closed.{IsClosed}
 use Rattle.p9_cert.specs.Policy.{Policy}
 use Rattle.p9_cert.specs.Rows.{is_row}
 use Rattle.p9_cert.specs.Safe.{Set}
-use Rattle.p9_cert.proofs.Basics.{same_self}
-use Rattle.p9_cert.proofs.Parents.{row_is_hidden}
+use Rattle.p9_policy.proofs.Basics.{same_self}
+use Rattle.p9_policy.proofs.Parents.{row_is_hidden}
 use Rattle.p9_judge.specs.Breach.{IsBreach}
 use Rattle.p9_judge.specs.Verdict.{IsVerdict}
 use Rattle.p9_judge.specs.declared.breach.BreachKind.{BreachKind}

@@ -16,7 +16,7 @@ use Rattle.p9_inside.proofs.Looks.{in-parent}
 use Rattle.p9_cert.specs.Listed.{is_passable}
 use Rattle.p9_cert.specs.Policy.{Policy}
 use Rattle.p9_cert.specs.Rows.{is_row}
-use Rattle.p9_cert.proofs.Basics.{clash}
+use Rattle.p9_policy.proofs.Basics.{clash}
 use Rattle.p9_cert.proofs.Children.{is_left, left-next, left_of, none_kept}
 use Rattle.p9_judge.specs.declared.search.Place.{Place}
 use Rattle.p9_judge.specs.Breach.{first_passer, passer_of}

@@ -17,7 +17,7 @@ use Rattle.p9_tree.specs.Forest.{node_of, server_at}
 use Rattle.p9_tree.proofs.Lookups.{each_found, node_at-found}
 use Rattle.p9_inside.proofs.Forests.{server_ordered}
 use Rattle.p9_inside.proofs.Looks.{in-parent, node_below, ordered_forest}
-use Rattle.p9_cert.proofs.Basics.{clash, each_weaker, not_some}
+use Rattle.p9_policy.proofs.Basics.{clash, each_weaker, not_some}
 use Rattle.p9_cert.proofs.Gaps.{all_filter, is-in}
 use Rattle.p9_judge.proofs.Lists.{all_at, found_kept, found_passes, none_passes}
 

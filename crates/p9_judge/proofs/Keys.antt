@@ -15,7 +15,7 @@ use Rattle.std.proofs.lemmas.Map.Keys.{sorted_head, sorted_tail}
 use Rattle.p9_base.specs.declared.node_ref.NodeRef.{NodeRef}
 use Rattle.p9_base.specs.NodeRef.{same_node}
 use Rattle.p9_cert.specs.Rows.{is_below, is_row, may_follow}
-use Rattle.p9_cert.proofs.Basics.{same_self}
+use Rattle.p9_policy.proofs.Basics.{same_self}
 
 -- by server, then by number
 abbrev pub node_cmp : NodeRef → NodeRef → Ordering

@@ -8,7 +8,7 @@ use Rattle.std.specs.List.{AllByRecursion, list_any}
 use Rattle.std.proofs.lemmas.Bool.{or_left, or_right}
 use Rattle.std.specs.Str.{bytes_eq}
 use Rattle.std.proofs.lemmas.Slice.Eq.{bytes_eq-Decides}
-use Rattle.p9_cert.proofs.Basics.{clash, not_some, some_same}
+use Rattle.p9_policy.proofs.Basics.{clash, not_some, some_same}
 
 module _ {X : Type 0} where
   -- what is there stays where more is added

@@ -18,10 +18,10 @@ use Rattle.p9_cert.specs.Gap.{first_of, is_removable}
 use Rattle.p9_cert.specs.Listed.{is_open, is_owned, is_passable}
 use Rattle.p9_cert.specs.Policy.{Policy}
 use Rattle.p9_cert.specs.Safe.{IsSafeMember, Set}
-use Rattle.p9_cert.proofs.Basics.{each_weaker, not_some, same_ref, same_self, some_same}
+use Rattle.p9_policy.proofs.Basics.{each_weaker, not_some, same_ref, same_self, some_same}
 use Rattle.p9_cert.proofs.Firsts.{first_none, no_map}
 use Rattle.p9_cert.proofs.Gaps.{guarded_from, hidden-none, removable_none}
-use Rattle.p9_cert.proofs.Parents.{inside-absent}
+use Rattle.p9_policy.proofs.Parents.{inside-absent}
 use Rattle.p9_judge.specs.declared.breach.BreachKind.{BreachKind}
 use Rattle.p9_judge.specs.declared.breach.BreachKind.TheVariants.{Inside, Open, Owned, Removable}
 use Rattle.p9_judge.specs.Breach.{breach_kind, breaching, first_passer, hidden_kind, is_listed}

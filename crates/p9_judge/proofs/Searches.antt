@@ -26,7 +26,7 @@ use Rattle.p9_cert.specs.Listed.{is_open, is_owned, is_passable, may_use}
 use Rattle.p9_cert.specs.Policy.{Policy}
 use Rattle.p9_cert.specs.Rows.{is_row}
 use Rattle.p9_cert.specs.Safe.{IsSafe, IsSafeMember, IsShut, Set}
-use Rattle.p9_cert.proofs.Basics.{clash, each_weaker, not_some, same_ref, same_self, some_same}
+use Rattle.p9_policy.proofs.Basics.{clash, each_weaker, not_some, same_ref, same_self, some_same}
 use Rattle.p9_judge.specs.declared.search.Origin.{Origin}
 use Rattle.p9_judge.specs.declared.search.Place.{Place}
 use Rattle.p9_judge.specs.Breach.{IsPassed, breach_kind, is_listed, is_member_of_place, may_be_passed_by}

@@ -12,10 +12,10 @@ use Rattle.std.proofs.lemmas.List.Folds.{list_any_more}
 use Rattle.std.proofs.lemmas.Slice.Eq.{bytes_eq-Decides}
 use Rattle.p9_base.specs.Group.{Group, GroupRow, group_of, has_member, is_member, leads}
 use Rattle.p9_tree.specs.Node.{Node}
-use Rattle.p9_cert.specs.declared.classes.Classes.{Classes}
+use Rattle.p9_policy.specs.declared.classes.Classes.{Classes}
 use Rattle.p9_cert.specs.Classes.{is_of}
 use Rattle.p9_cert.specs.Listed.{some_listed}
-use Rattle.p9_cert.proofs.ByClass.{any_or}
+use Rattle.p9_policy.proofs.ByClass.{any_or}
 use Rattle.p9_judge.specs.declared.listed.Listed.{Listed}
 use Rattle.p9_judge.specs.Listed.{Lists, has_listed, has_of_a_class}
 

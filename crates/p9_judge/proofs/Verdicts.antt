@@ -18,7 +18,7 @@ use Rattle.p9_cert.specs.Closed.{AreNotBarred, IsClosed}
 use Rattle.p9_cert.specs.Policy.{Policy}
 use Rattle.p9_cert.specs.Rows.{is_row}
 use Rattle.p9_cert.specs.Safe.{IsSafe, IsSafeMember, Set}
-use Rattle.p9_cert.proofs.Basics.{each_weaker, not_some, same_ref, some_same}
+use Rattle.p9_policy.proofs.Basics.{each_weaker, not_some, same_ref, some_same}
 use Rattle.p9_cert.proofs.Firsts.{none-past}
 use Rattle.p9_cert.proofs.Gaps.{no_gap_is_closed}
 use Rattle.p9_judge.specs.declared.breach.BreachKind.{BreachKind}

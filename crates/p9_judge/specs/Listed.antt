@@ -4,7 +4,7 @@ use Rattle.std.specs.List.{list_any}
 use Rattle.std.specs.Option.{option_map_or}
 use Rattle.std.specs.Str.{bytes_eq}
 use Rattle.p9_base.specs.Group.{Group, GroupRow, group_of, is_member, leads}
-use Rattle.p9_cert.specs.declared.classes.Classes.{Classes}
+use Rattle.p9_policy.specs.declared.classes.Classes.{Classes}
 use Rattle.p9_judge.specs.declared.listed.Listed.{Listed}
 
 module _ (users : List (List ℕ)) (groups : List GroupRow) (classes : Classes) where

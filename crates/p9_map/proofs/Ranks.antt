@@ -7,7 +7,7 @@ use Rattle.std.specs.Prelude.{IsTrue}
 use Rattle.std.specs.List.{All, list_any}
 use Rattle.std.proofs.lemmas.Bool.{cases_Bool, false≢true, lt-leb, or_left, or_right}
 use Rattle.std.proofs.lemmas.List.Elements.{All-cons, All-nil}
-use Rattle.p9_cert.proofs.Basics.{same_self}
+use Rattle.p9_policy.proofs.Basics.{same_self}
 use Rattle.p9_map.specs.Line.{is_at}
 use Rattle.std.proofs.lemmas.List.{drop_all, drop_more, reverse-append}
 use Rattle.std.proofs.lemmas.List.Sums.{sum_by-cons}

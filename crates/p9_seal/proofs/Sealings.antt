@@ -7,7 +7,7 @@ use Rattle.p9_base.specs.declared.node_ref.NodeRef.{NodeRef}
 use Rattle.p9_base.specs.Results.{need}
 use Rattle.p9_cert.specs.Rows.{IsCertificate}
 use Rattle.p9_cert.specs.Text.{certificate_text}
-use Rattle.p9_cert.proofs.Written.{written_reads_back}
+use Rattle.p9_policy.proofs.Written.{written_reads_back}
 use Rattle.p9_prepared.specs.Bundle.{Texts, bundle_of}
 use Rattle.p9_prepared.specs.NameSpace.{NameSpace, space_in}
 use Rattle.p9_prepared.specs.Prepared.{prepared_of, script_in, space_of}

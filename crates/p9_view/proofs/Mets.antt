@@ -11,7 +11,7 @@ use Rattle.std.specs.declared.cmp.Ordering.TheVariants.{Equal, Greater, Less}
 use Rattle.std.proofs.lemmas.Bool.Decides.{nat_tests}
 use Rattle.p9_base.specs.declared.node_ref.NodeRef.{NodeRef}
 use Rattle.p9_base.specs.NodeRef.{same_node}
-use Rattle.p9_cert.proofs.Basics.{clash, same_ref, same_self}
+use Rattle.p9_policy.proofs.Basics.{clash, same_ref, same_self}
 use Rattle.p9_view.specs.Met.{node_cmp}
 
 -- an ordering is that of equals

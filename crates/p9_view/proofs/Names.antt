@@ -5,7 +5,7 @@ use Rattle.std.specs.Prelude.{slice_get}
 use Rattle.std.specs.Option.{option_and_then, option_map}
 use Rattle.std.proofs.lemmas.List.{reverse-append}
 use Rattle.std.proofs.lemmas.Option.{slice_get_cases}
-use Rattle.p9_cert.proofs.Basics.{not_some, some_same}
+use Rattle.p9_policy.proofs.Basics.{not_some, some_same}
 use Rattle.p9_view.specs.declared.tour.Entry.{Entry}
 use Rattle.p9_view.specs.declared.tour.Origin.{Origin}
 use Rattle.p9_view.specs.Tour.{IsPathTo, IsTour, origin_at, origin_pair}

@@ -2,7 +2,7 @@
 use Rattle.std.proofs.Common.{◌≡◌, ℕ, zero, suc, ◌+◌, ◌<◌, ◌≤◌, List, [], ◌∷◌, ◌++◌, Option, Some, None}
 use Rattle.std.proofs.Common.{inl, inr, length, ap, ◌∙◌, arith}
 use Rattle.std.specs.Prelude.{slice_get}
-use Rattle.p9_cert.proofs.Basics.{not_some, some_same}
+use Rattle.p9_policy.proofs.Basics.{not_some, some_same}
 use Rattle.p9_judge.proofs.Lists.{at-within, kept_at, new_at, split_at}
 use Rattle.p9_view.specs.Tour.{AreInOrder}
 

@@ -15,10 +15,10 @@ use Rattle.p9_tree.specs.Server.{Server}
 use Rattle.p9_space.specs.declared.row.Member.{Member}
 use Rattle.p9_space.specs.Rights.{Who}
 use Rattle.p9_cert.specs.Listed.{may_pass}
-use Rattle.p9_cert.proofs.Basics.{clash}
-use Rattle.p9_cert.proofs.ByClass.{pass-by-classes}
+use Rattle.p9_policy.proofs.Basics.{clash}
+use Rattle.p9_policy.proofs.ByClass.{pass-by-classes}
 use Rattle.p9_cert.specs.Classes.{is_of}
-use Rattle.p9_cert.specs.declared.classes.Classes.{Classes}
+use Rattle.p9_policy.specs.declared.classes.Classes.{Classes}
 use Rattle.p9_view.specs.Passing.{is_passed, is_passed_by, is_public, passers}
 use Rattle.p9_view.specs.Ranks.{HasAdded, IsOfGroup}
 use Rattle.p9_world.specs.World.{World}

@@ -12,7 +12,7 @@ use Rattle.std.specs.Str.{bytes_eq}
 use Rattle.std.proofs.lemmas.Bool.Decides.{nat_tests}
 use Rattle.std.proofs.lemmas.List.Folds.{list_any_more}
 use Rattle.std.proofs.lemmas.Slice.Eq.{bytes_eq-Decides}
-use Rattle.p9_cert.proofs.Basics.{clash, not_some, some_same}
+use Rattle.p9_policy.proofs.Basics.{clash, not_some, some_same}
 use Rattle.p9_view.specs.Ranks.{HasAdded, has_rank}
 use Rattle.std.proofs.lemmas.Option.{slice_get_within}
 

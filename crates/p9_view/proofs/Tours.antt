@@ -11,7 +11,7 @@ use Rattle.p9_base.specs.declared.node_ref.NodeRef.{NodeRef}
 use Rattle.p9_tree.specs.Server.{Server}
 use Rattle.p9_space.specs.Rights.{Who}
 use Rattle.p9_space.specs.Table.{MountRow}
-use Rattle.p9_cert.proofs.Basics.{not_some, some_same}
+use Rattle.p9_policy.proofs.Basics.{not_some, some_same}
 use Rattle.p9_judge.proofs.Lists.{at-within, kept_at, map_at, new_at, split_at}
 use Rattle.p9_view.specs.declared.met.Met.{Met}
 use Rattle.p9_view.specs.declared.tour.Entry.{Entry}

@@ -31,7 +31,7 @@ use Rattle.p9_space.specs.Trail.{here, places_max, stepped}
 use Rattle.p9_space.specs.Walk.{arrived, child_among, child_ref, is_alive, is_alive_dir}
 use Rattle.p9_space.specs.Walk.{is_searched, may_search, step_among, step_of, walk}
 use Rattle.p9_space.proofs.Names.{child_among-invalid}
-use Rattle.p9_cert.proofs.Basics.{clash, not_some, some_same}
+use Rattle.p9_policy.proofs.Basics.{clash, not_some, some_same}
 use Rattle.p9_judge.proofs.Found.{child_at, named_child}
 use Rattle.p9_judge.proofs.Lists.{map_at, split_at}
 use Rattle.p9_view.specs.declared.met.Met.{Met}

@@ -4,7 +4,7 @@ use Rattle.std.specs.BTreeMap.{is_at}
 use Rattle.std.specs.List.{list_any}
 use Rattle.std.specs.Ordering.{nat_cmp}
 use Rattle.p9_base.specs.Group.{Group, has_member}
-use Rattle.p9_cert.specs.declared.classes.Classes.{Classes}
+use Rattle.p9_policy.specs.declared.classes.Classes.{Classes}
 
 -- whether a rank is among some
 abbrev pub has_rank : List ℕ → ℕ → Bool

@@ -1,6 +1,6 @@
 use Rattle.std.proofs.Common.{◌≡◌, ◌+◌, drop}
+use Rattle.p9_policy.specs.Policy.{policy_of}
 use Rattle.p9_cert.specs.Gap.{children_gap, first_counted}
-use Rattle.p9_cert.specs.Policy.{policy_of}
 use Rattle.p9_cert.proofs.check.check_children.Given as goal
 
 -- the rows that are left have the first gap

@@ -4,8 +4,8 @@ use Rattle.std.proofs.lemmas.Result.{err_from_is_err_and}
 use Rattle.p9_base.specs.NodeRef.{beside}
 use Rattle.p9_tree.specs.Forest.{IsForest, child_in_after, next_of}
 use Rattle.p9_world.specs.World.{World}
+use Rattle.p9_policy.specs.Policy.{policy_of}
 use Rattle.p9_cert.specs.Gap.{child_gap, children_gap, first_of, place_gap}
-use Rattle.p9_cert.specs.Policy.{policy_of}
 use Rattle.p9_cert.proofs.Children.{children-end, children-found, children-next, children-smaller}
 use Rattle.p9_cert.proofs.Children.{left-all, left_of, passed}
 use Rattle.p9_cert.proofs.check.check_children_of.Goals as goal

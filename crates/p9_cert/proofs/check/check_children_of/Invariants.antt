@@ -1,7 +1,7 @@
 use Rattle.std.proofs.Common.{◌≡◌, ◌-◌}
 use Rattle.p9_tree.specs.Forest.{next_of}
+use Rattle.p9_policy.specs.Policy.{policy_of}
 use Rattle.p9_cert.specs.Gap.{child_gap, children_gap, first_of}
-use Rattle.p9_cert.specs.Policy.{policy_of}
 use Rattle.p9_cert.proofs.Children.{left_of, passed}
 use Rattle.p9_cert.proofs.check.check_children_of.Given as goal
 

@@ -1,8 +1,8 @@
 use Rattle.std.proofs.Common.{subst, sym}
 use Rattle.p9_tree.specs.Forest.{IsForest}
 use Rattle.p9_world.specs.World.{World}
-use Rattle.p9_cert.specs.Policy.{policy_of}
-use Rattle.p9_cert.proofs.Parents.{not_barred}
+use Rattle.p9_policy.specs.Policy.{policy_of}
+use Rattle.p9_cert.proofs.Faults.{not_barred}
 use Rattle.p9_cert.proofs.check.check_row.Goals as goal
 
 pub returns-in-None-clause-outside : goal.returns-in-None-clause-outside

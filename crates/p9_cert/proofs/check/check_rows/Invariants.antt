@@ -1,7 +1,7 @@
 use Rattle.std.proofs.Common.{◌≡◌, ◌+◌, drop, take}
-use Rattle.p9_cert.specs.Closed.{AreNotBarred}
+use Rattle.p9_policy.specs.Barred.{AreNotBarred}
+use Rattle.p9_policy.specs.Policy.{policy_of}
 use Rattle.p9_cert.specs.Gap.{first_counted, row_gap}
-use Rattle.p9_cert.specs.Policy.{policy_of}
 use Rattle.p9_cert.proofs.check.check_rows.Given as goal
 
 -- the rows that are left have the first gap, and those before are shown

@@ -3,8 +3,8 @@ use Rattle.std.specs.Result.{result_err}
 use Rattle.p9_base.specs.declared.node_ref.NodeRef.{NodeRef}
 use Rattle.p9_tree.specs.Forest.{IsForest}
 use Rattle.p9_world.specs.World.{World}
+use Rattle.p9_policy.specs.Policy.{policy_of}
 use Rattle.p9_cert.specs.Gap.{first_gap}
-use Rattle.p9_cert.specs.Policy.{policy_of}
 use Rattle.p9_cert.proofs.Gaps.{accepted}
 use Rattle.p9_cert.proofs.check.verify.Goals as goal
 

@@ -3,8 +3,8 @@ use Rattle.std.proofs.lemmas.Grind.{common_steps}
 use Rattle.p9_tree.specs.Forest.{IsForest, node_of}
 use Rattle.p9_tree.specs.Inside.{is_hidden, is_inside}
 use Rattle.p9_world.specs.World.{World}
-use Rattle.p9_cert.specs.Policy.{policy_of}
-use Rattle.p9_cert.proofs.Parents.{fault-absent, fault-hidden, fault-row}
+use Rattle.p9_policy.specs.Policy.{policy_of}
+use Rattle.p9_cert.proofs.Faults.{fault-absent, fault-hidden, fault-row}
 use Rattle.p9_cert.proofs.place.member_fault.Goals as goal
 
 pub returns-then-is_row : goal.returns-then-is_row

@@ -1,6 +1,6 @@
 use Rattle.std.proofs.Common.{◌≡◌, drop}
+use Rattle.p9_policy.specs.Policy.{policy_of}
 use Rattle.p9_cert.specs.Gap.{faulty, first_of, place_fault}
-use Rattle.p9_cert.specs.Policy.{policy_of}
 use Rattle.p9_cert.proofs.place.place_fault.Given as goal
 
 -- the members that are left have the first fault

@@ -6,7 +6,7 @@ use Rattle.std.specs.Option.{option_map}
 use Rattle.std.specs.Str.{bytes_eq}
 use Rattle.std.proofs.lemmas.Option.{slice_get-get_or}
 use Rattle.p9_base.specs.Group.{group_of}
-use Rattle.p9_cert.proofs.Basics.{some_same}
+use Rattle.p9_policy.proofs.Basics.{some_same}
 use Rattle.p9_judge.specs.Listed.{has_listed}
 use Rattle.p9_judge.proofs.Users.{marked-more, marked-same}
 use Rattle.p9_judge.proofs.listed.mark_group.Goals as goal

@@ -2,7 +2,7 @@ use Rattle.std.proofs.Common.{◌≡◌, ◌∙◌, ◌&&◌, true, false, sym, 
 use Rattle.p9_tree.specs.Node.{is_dir}
 use Rattle.p9_cert.specs.Classes.{is_of}
 use Rattle.p9_cert.specs.Listed.{is_passable, may_pass, some_listed}
-use Rattle.p9_cert.proofs.ByClass.{some-same}
+use Rattle.p9_policy.proofs.ByClass.{some-same}
 use Rattle.p9_judge.proofs.listed.Listed.may_pass.Goals as goal
 
 pub returns-then-is_dir : goal.returns-then-is_dir

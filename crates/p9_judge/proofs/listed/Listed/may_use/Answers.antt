@@ -1,7 +1,7 @@
 use Rattle.std.proofs.Common.{◌∙◌}
 use Rattle.p9_cert.specs.Classes.{is_of}
 use Rattle.p9_cert.specs.Listed.{is_open, may_use}
-use Rattle.p9_cert.proofs.ByClass.{some-same}
+use Rattle.p9_policy.proofs.ByClass.{some-same}
 use Rattle.p9_judge.proofs.listed.Listed.may_use.Goals as goal
 
 pub returns : goal.returns

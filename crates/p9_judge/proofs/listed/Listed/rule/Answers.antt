@@ -2,7 +2,7 @@ use Rattle.std.proofs.Common.{◌∙◌}
 use Rattle.p9_space.specs.Rights.{rules}
 use Rattle.p9_cert.specs.Classes.{is_of}
 use Rattle.p9_cert.specs.Listed.{is_owned}
-use Rattle.p9_cert.proofs.ByClass.{some-same}
+use Rattle.p9_policy.proofs.ByClass.{some-same}
 use Rattle.p9_judge.proofs.listed.Listed.rule.Goals as goal
 
 pub returns : goal.returns

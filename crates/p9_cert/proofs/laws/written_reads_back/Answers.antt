@@ -1,5 +1,0 @@
-use Rattle.p9_cert.proofs.Written.{written_reads_back}
-use Rattle.p9_cert.proofs.laws.written_reads_back.Goals as goal
-
-pub returns : goal.returns
-returns c = written_reads_back
