@@ -10,8 +10,9 @@ mod way;
 
 pub use channel::{Channels, advance};
 pub use p9_clean::clean;
-pub use p9_table::{Member, Members, MountTable, Order, Step, Trail, UnmountError, Who};
-pub use p9_table::{PLACES_MAX, ROOT_PLACE, TO_EXECUTE, TO_READ, TO_WRITE};
-pub use p9_table::{is_given, is_table_given, may, rules};
+pub use p9_table::{
+    Member, Members, MountTable, Order, PLACES_MAX, ROOT_PLACE, Step, TO_EXECUTE, TO_READ,
+    TO_WRITE, Trail, UnmountError, Who, is_given, is_table_given, may, rules,
+};
 pub use walk::{Arrival, dir_fault, resolve};
 pub use way::{Way, advance_on, find_arrival_on};
