@@ -18,7 +18,7 @@ use Rattle.p9_tree.specs.Forest.{IsForest, children_of, node_of, server_at}
 use Rattle.p9_tree.specs.Inside.{is_hidden, is_inside}
 use Rattle.p9_tree.proofs.Lookups.{each_found, number-node_at}
 use Rattle.p9_inside.proofs.Forests.{server_ordered}
-use Rattle.p9_space.specs.declared.row.Member.{Member}
+use Rattle.p9_table.specs.declared.row.Member.{Member}
 use Rattle.p9_space.specs.Given.{is_given, is_row_given, is_table_given}
 use Rattle.p9_space.specs.Place.{root_place}
 use Rattle.p9_space.specs.Table.{MountRow, members_of}

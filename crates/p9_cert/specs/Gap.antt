@@ -10,7 +10,7 @@ use Rattle.p9_tree.specs.Node.{Node}
 use Rattle.p9_tree.specs.Server.{Server}
 use Rattle.p9_tree.specs.Forest.{children_of, is_dir_of, node_of}
 use Rattle.p9_tree.specs.Inside.{is_hidden, is_inside}
-use Rattle.p9_space.specs.declared.row.Member.{Member}
+use Rattle.p9_table.specs.declared.row.Member.{Member}
 use Rattle.p9_space.specs.Given.{is_given}
 use Rattle.p9_space.specs.Place.{root_place}
 use Rattle.p9_space.specs.Table.{MountRow, members_of}

@@ -50,10 +50,7 @@ pub fn served_guard_over<T: Tree>(
 }
 
 // The guard that an input offers. Where an allocation fails, a part of the reports may be there.
-fn offer<T: Tree>(
-    input: &[u8],
-    err: &mut Vec<u8, T::Alloc>,
-) -> Result<Option<Guard<T>>, NoMemory>
+fn offer<T: Tree>(input: &[u8], err: &mut Vec<u8, T::Alloc>) -> Result<Option<Guard<T>>, NoMemory>
     ensures { IfOk result (λ guard. Serves (offer_of input.now) err.old.items err.new.items
         guard) }
 {

@@ -28,7 +28,7 @@ use Rattle.p9_space.specs.Place.{root_place}
 use Rattle.p9_space.specs.Rights.{may, rules, to_write}
 use Rattle.p9_space.specs.Table.{IsTable, members_of}
 use Rattle.p9_space.specs.Trail.{here}
-use Rattle.p9_space.specs.declared.row.Member.{Member}
+use Rattle.p9_table.specs.declared.row.Member.{Member}
 use Rattle.p9_wire.specs.Stat.{StatFields}
 use Rattle.p9_wire.specs.Message.{RMessage, Rerror, TMessage, Tattach, Tauth, Tclunk}
 use Rattle.p9_wire.specs.Message.{Tcreate, Tflush, Topen, Tread, Tremove, Tstat, Tversion, Twalk}

@@ -19,8 +19,8 @@ use Rattle.p9_space.specs.Table.{MountRow, members_of}
 use Rattle.p9_space.specs.Trail.{here, stepped}
 use Rattle.p9_space.specs.Walk.{arrived, child_among, child_ref, is_alive, is_alive_dir, is_searched}
 use Rattle.p9_space.specs.Walk.{may_search, step_among, step_down, step_of, walk}
-use Rattle.p9_space.specs.declared.row.Member.{Member}
-use Rattle.p9_space.specs.declared.trail.Step.{Step}
+use Rattle.p9_table.specs.declared.row.Member.{Member}
+use Rattle.p9_table.specs.declared.trail.Step.{Step}
 use Rattle.p9_step.specs.Qid.{qid_at, qid_of}
 use Rattle.p9_step.specs.Rights.{may_write_parent}
 use Rattle.p9_step.specs.State.{Setting, who_of}

@@ -14,7 +14,7 @@ use Rattle.p9_tree.specs.Server.{Server}
 use Rattle.p9_tree.specs.Unread.{all_unread}
 use Rattle.p9_space.specs.Rights.{Who, may, to_read}
 use Rattle.p9_space.specs.Table.{MountRow, members_of}
-use Rattle.p9_space.specs.declared.row.Member.{Member}
+use Rattle.p9_table.specs.declared.row.Member.{Member}
 use Rattle.p9_wire.proofs.Lengths.{length-stat_bytes}
 use Rattle.p9_fids.specs.declared.opened.Cursor.{Cursor}
 use Rattle.p9_step.specs.Listing.{UnionEntry, cursor_of, entries_from, entries_of, entry_at}

@@ -19,8 +19,8 @@ use Rattle.p9_space.specs.Rights.{Who, may, rules, to_execute}
 use Rattle.p9_space.specs.Table.{IsTable, members_of}
 use Rattle.p9_space.specs.Trail.{here}
 use Rattle.p9_space.specs.Walk.{child_among, is_searched, may_search}
-use Rattle.p9_space.specs.declared.row.Member.{Member}
-use Rattle.p9_space.proofs.Tables.{members_of-some}
+use Rattle.p9_table.specs.declared.row.Member.{Member}
+use Rattle.p9_table.proofs.Tables.{members_of-some}
 use Rattle.p9_fids.specs.Fid.{Fid}
 use Rattle.p9_step.specs.State.{Setting, fid_file, fid_ref, who_of}
 use Rattle.p9_cert.specs.Listed.{is_passable, may_pass}

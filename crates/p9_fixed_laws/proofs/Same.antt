@@ -26,7 +26,7 @@ use Rattle.p9_space.specs.Place.{file_ref, root_place}
 use Rattle.p9_space.specs.Rights.{may, to_write}
 use Rattle.p9_space.specs.Table.{IsTable, members_of}
 use Rattle.p9_space.specs.Trail.{here}
-use Rattle.p9_space.specs.declared.row.Member.{Member}
+use Rattle.p9_table.specs.declared.row.Member.{Member}
 use Rattle.p9_wire.specs.Stat.{StatFields}
 use Rattle.p9_wire.specs.Message.{Ropen, Rstat, TMessage, Tattach, Tauth, Tclunk, Tcreate}
 use Rattle.p9_wire.specs.Message.{Tflush, Topen, Tread, Tremove, Tstat, Tversion, Twalk, Twrite}

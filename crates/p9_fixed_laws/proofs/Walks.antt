@@ -19,9 +19,9 @@ use Rattle.p9_space.specs.Table.{members_of}
 use Rattle.p9_space.specs.Trail.{here, places_max, stepped, upward}
 use Rattle.p9_space.specs.Walk.{arrived, child_among, is_alive, is_alive_dir, is_searched}
 use Rattle.p9_space.specs.Walk.{step_among, step_down, step_of, walk}
-use Rattle.p9_space.specs.declared.row.Member.{Member}
-use Rattle.p9_space.specs.declared.trail.Step.{Step}
-use Rattle.p9_space.specs.declared.trail.Step.TheVariants.{To, Up}
+use Rattle.p9_table.specs.declared.row.Member.{Member}
+use Rattle.p9_table.specs.declared.trail.Step.{Step}
+use Rattle.p9_table.specs.declared.trail.Step.TheVariants.{To, Up}
 use Rattle.p9_step.specs.Qid.{qid_at}
 use Rattle.p9_step.specs.State.{Setting, who_of}
 use Rattle.p9_step.specs.Walk.{Arrival, arrival, arrived_by, step_and_rest, trail_after, walked}

@@ -16,7 +16,7 @@ use Rattle.p9_inside.proofs.TwoForests.{next_same}
 use Rattle.p9_space.specs.Given.{is_given}
 use Rattle.p9_space.specs.Place.{root_place}
 use Rattle.p9_space.specs.Table.{IsTable, members_of}
-use Rattle.p9_space.specs.declared.row.Member.{Member}
+use Rattle.p9_table.specs.declared.row.Member.{Member}
 use Rattle.p9_step.specs.State.{State}
 use Rattle.p9_step.specs.Sound.{IsSetting}
 use Rattle.p9_cert.specs.Rows.{is_row}

@@ -29,7 +29,7 @@ use Rattle.p9_space.specs.Given.{is_given}
 use Rattle.p9_space.specs.Place.{first_node}
 use Rattle.p9_space.specs.Rights.{may, to_write, to_execute, to_read}
 use Rattle.p9_space.specs.Trail.{here, places_max}
-use Rattle.p9_space.specs.declared.row.Member.{Member}
+use Rattle.p9_table.specs.declared.row.Member.{Member}
 use Rattle.p9_space.specs.Table.{members_of}
 use Rattle.p9_space.specs.Walk.{is_alive, is_alive_dir}
 use Rattle.p9_fids.specs.Fid.{Fid, fid_at}

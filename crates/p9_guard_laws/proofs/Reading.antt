@@ -16,7 +16,7 @@ use Rattle.p9_inside.proofs.Looks.{not_barred}
 use Rattle.p9_space.specs.Place.{first_node}
 use Rattle.p9_space.specs.Rights.{may, to_write, to_execute, to_read}
 use Rattle.p9_space.specs.Trail.{here}
-use Rattle.p9_space.specs.declared.row.Member.{Member}
+use Rattle.p9_table.specs.declared.row.Member.{Member}
 use Rattle.p9_space.specs.Table.{members_of}
 use Rattle.p9_fids.specs.declared.opened.Opened.{Opened}
 use Rattle.p9_fids.specs.Fid.{Fid, fid_at, changed_fid, opened_as}

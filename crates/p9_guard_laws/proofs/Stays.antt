@@ -14,12 +14,12 @@ use Rattle.p9_tree.specs.Inside.{is_hidden, is_inside}
 use Rattle.p9_inside.proofs.Facts.{clash, le_test, lt_of, lt_test, not_is, not_true, some_same}
 use Rattle.p9_inside.proofs.Looks.{Ordered, inside_at, inside_none, inside_root, node_below}
 use Rattle.p9_inside.proofs.Looks.{parent_below}
-use Rattle.p9_space.specs.declared.row.Member.{Member}
+use Rattle.p9_table.specs.declared.row.Member.{Member}
 use Rattle.p9_space.specs.Given.{is_given, is_row_given, is_table_given}
 use Rattle.p9_space.specs.Place.{root_place}
 use Rattle.p9_space.specs.Row.{member}
 use Rattle.p9_space.specs.Table.{MountRow, members_of, row_of}
-use Rattle.p9_space.proofs.GivenLists.{all-lookup}
+use Rattle.p9_table.proofs.GivenLists.{all-lookup}
 use Rattle.p9_fids.specs.Fid.{Fid, FidRow}
 use Rattle.p9_step.proofs.NodeRefs.{same-is}
 use Rattle.p9_cert.specs.Rows.{is_row}

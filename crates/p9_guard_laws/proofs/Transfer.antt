@@ -14,7 +14,7 @@ use Rattle.p9_inside.proofs.TwoForests.{in_both, inside_alike, next_same, node_s
 use Rattle.p9_inside.proofs.Facts.{not_some, some_same}
 use Rattle.p9_inside.proofs.Looks.{Ordered, inside_at, not_barred, not_inside, parent_not_barred}
 use Rattle.p9_inside.proofs.Looks.{root_outside}
-use Rattle.p9_space.specs.declared.row.Member.{Member}
+use Rattle.p9_table.specs.declared.row.Member.{Member}
 use Rattle.p9_space.specs.Given.{is_given, is_table_given}
 use Rattle.p9_space.specs.Place.{root_place}
 use Rattle.p9_space.specs.Row.{member}

@@ -23,16 +23,16 @@ use Rattle.p9_tree.proofs.Lookups.{passes-found}
 use Rattle.p9_inside.proofs.Forests.{keeps_child, keeps_node}
 use Rattle.p9_inside.proofs.Facts.{lt_test, not_some, some_same}
 use Rattle.p9_inside.proofs.Looks.{found_node, in-parent, inside_at, node_below, not_barred}
-use Rattle.p9_space.specs.declared.row.Member.{Member}
-use Rattle.p9_space.specs.declared.trail.Step.{Step}
-use Rattle.p9_space.specs.declared.trail.Step.TheVariants.{To, Up}
+use Rattle.p9_table.specs.declared.row.Member.{Member}
+use Rattle.p9_table.specs.declared.trail.Step.{Step}
+use Rattle.p9_table.specs.declared.trail.Step.TheVariants.{To, Up}
 use Rattle.p9_space.specs.Place.{file_of, file_ref, first_node}
 use Rattle.p9_space.specs.Rights.{Who, may, rules, to_execute}
 use Rattle.p9_space.specs.Table.{members_of}
 use Rattle.p9_space.specs.Trail.{here, places_max, stepped, upward}
 use Rattle.p9_space.specs.Walk.{arrived, child_among, child_ref, is_alive, is_alive_dir}
 use Rattle.p9_space.specs.Walk.{is_searched, may_search, step_among, step_down, step_of, walk}
-use Rattle.p9_space.proofs.Tables.{members_of-some}
+use Rattle.p9_table.proofs.Tables.{members_of-some}
 use Rattle.p9_step.specs.State.{who_of}
 use Rattle.p9_step.specs.Qid.{qid_at}
 use Rattle.p9_step.specs.Walk.{Arrival, arrival, arrived_by, step_and_rest, trail_after, walked}

@@ -18,7 +18,7 @@ use Rattle.p9_inside.proofs.Facts.{lt_test}
 use Rattle.p9_tree.proofs.Lookups.{rising_head, rising_tail}
 use Rattle.p9_space.specs.Place.{root_place}
 use Rattle.p9_space.specs.Table.{MountRow, members_of}
-use Rattle.p9_space.specs.declared.row.Member.{Member}
+use Rattle.p9_table.specs.declared.row.Member.{Member}
 use Rattle.p9_cert.specs.Closed.{IsClosed}
 use Rattle.p9_cert.specs.Gap.{first_gap}
 use Rattle.p9_cert.specs.Policy.{Policy}

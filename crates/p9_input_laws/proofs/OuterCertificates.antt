@@ -14,7 +14,7 @@ use Rattle.p9_inside.proofs.Forests.{keeps_dir_test, keeps_next}
 use Rattle.p9_space.specs.Given.{is_given, is_table_given}
 use Rattle.p9_space.specs.Place.{root_place}
 use Rattle.p9_space.specs.Table.{MountRow, members_of}
-use Rattle.p9_space.specs.declared.row.Member.{Member}
+use Rattle.p9_table.specs.declared.row.Member.{Member}
 use Rattle.p9_world.specs.World.{IsWorld, World}
 use Rattle.p9_cert.specs.Closed.{IsClosed}
 use Rattle.p9_cert.specs.Gap.{first_gap}

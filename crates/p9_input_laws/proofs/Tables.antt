@@ -23,11 +23,11 @@ use Rattle.p9_space.specs.Row.{brought, is_of, joined}
 use Rattle.p9_space.specs.Table.{IsTable, MountRow, bound, row_of, standing, unmounted}
 use Rattle.p9_space.specs.Table.{with_members, with_row, without_member, without_row}
 use Rattle.p9_space.specs.Trail.{here}
-use Rattle.p9_space.specs.declared.row.Member.{Member}
-use Rattle.p9_space.specs.declared.row.Order.{Order}
-use Rattle.p9_space.specs.declared.table.UnmountError.{UnmountError}
-use Rattle.p9_space.specs.declared.table.UnmountError.TheVariants.{NotMember, NotMounted}
-use Rattle.p9_space.proofs.Tables.{IsTable-with_row, IsTable-without_row, joined-some}
+use Rattle.p9_table.specs.declared.row.Member.{Member}
+use Rattle.p9_table.specs.declared.row.Order.{Order}
+use Rattle.p9_table.specs.declared.table.UnmountError.{UnmountError}
+use Rattle.p9_table.specs.declared.table.UnmountError.TheVariants.{NotMember, NotMounted}
+use Rattle.p9_table.proofs.Tables.{IsTable-with_row, IsTable-without_row, joined-some}
 use Rattle.p9_nsline.specs.Bind.{after_unmount, bound_by, has_spec, may_hold, member_nodes}
 use Rattle.p9_nsline.specs.Bind.{mounted_by, put_at, root_mounted, taken_away, unmounted_by}
 use Rattle.p9_nsline.specs.Bind.{with_table}

@@ -12,7 +12,7 @@ use Rattle.p9_tree.specs.Node.{Node, is_dir}
 use Rattle.p9_tree.specs.Server.{Server}
 use Rattle.p9_tree.specs.Forest.{node_of}
 use Rattle.p9_tree.specs.Inside.{is_hidden, is_inside}
-use Rattle.p9_space.specs.declared.row.Member.{Member}
+use Rattle.p9_table.specs.declared.row.Member.{Member}
 use Rattle.p9_space.specs.Table.{MountRow, members_of}
 use Rattle.p9_cert.specs.Gap.{first_of, is_removable}
 use Rattle.p9_cert.specs.Listed.{is_open, is_owned, is_passable}

@@ -10,7 +10,7 @@ use Rattle.p9_tree.specs.Server.{Server, next_max}
 use Rattle.p9_tree.specs.Forest.{IsForest}
 use Rattle.p9_tree.specs.Inside.{is_barred}
 use Rattle.p9_inside.proofs.Forests.{barred_is_hidden_or_inside}
-use Rattle.p9_space.specs.declared.row.Member.{Member}
+use Rattle.p9_table.specs.declared.row.Member.{Member}
 use Rattle.p9_space.specs.Given.{is_table_given}
 use Rattle.p9_space.specs.Place.{root_place}
 use Rattle.p9_space.specs.Table.{MountRow, members_of}

@@ -11,7 +11,7 @@ use Rattle.p9_tree.specs.Node.{Node, is_dir}
 use Rattle.p9_tree.specs.Server.{Server}
 use Rattle.p9_tree.specs.Forest.{child_in, node_of}
 use Rattle.p9_tree.specs.Inside.{is_hidden, is_inside}
-use Rattle.p9_space.specs.declared.row.Member.{Member}
+use Rattle.p9_table.specs.declared.row.Member.{Member}
 use Rattle.p9_space.specs.Place.{root_place}
 use Rattle.p9_space.specs.Table.{MountRow, members_of}
 use Rattle.p9_cert.specs.Gap.{first_of, is_removable, where_true}

@@ -13,7 +13,7 @@ use Rattle.p9_tree.specs.Server.{Server}
 use Rattle.p9_tree.specs.Unread.{all_unread}
 use Rattle.p9_space.specs.Place.{root_place}
 use Rattle.p9_space.specs.Table.{MountRow, members_of}
-use Rattle.p9_space.specs.declared.row.Member.{Member}
+use Rattle.p9_table.specs.declared.row.Member.{Member}
 use Rattle.p9_cert.specs.Gap.{child_gap, children_gap, faulty, first_counted, first_gap, first_of}
 use Rattle.p9_cert.specs.Gap.{hidden_fault, is_removable, member_fault, members_gap, mount_gap}
 use Rattle.p9_cert.specs.Gap.{node_fault, node_gap, place_fault, place_gap, root_gap, row_fault}

@@ -19,7 +19,7 @@ use Rattle.p9_tree.specs.Node.{Node, has_number, is_child, is_dir, is_in, marked
 use Rattle.p9_tree.specs.Server.{Server, WellFormed, added, child_of, node_at, with_changed}
 use Rattle.p9_tree.proofs.Changed.{KeepsPlace, keeps-marked, node_at-changed_at}
 use Rattle.p9_tree.proofs.Lookups.{All-node_at, node_at-past, number-node_at}
-use Rattle.p9_space.specs.declared.row.Member.{Member}
+use Rattle.p9_table.specs.declared.row.Member.{Member}
 use Rattle.p9_space.specs.Place.{file_of}
 use Rattle.p9_space.specs.Rights.{Who}
 use Rattle.p9_space.specs.Table.{MountRow, members_of}

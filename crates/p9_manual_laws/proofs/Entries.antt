@@ -10,7 +10,7 @@ use Rattle.p9_tree.specs.Forest.{IsForest, children_of, node_of, server_at}
 use Rattle.p9_tree.specs.Node.{Node, has_number, is_in}
 use Rattle.p9_tree.specs.Server.{Server, WellFormed}
 use Rattle.p9_tree.proofs.Lookups.{rising_head, rising_tail}
-use Rattle.p9_space.specs.declared.row.Member.{Member}
+use Rattle.p9_table.specs.declared.row.Member.{Member}
 use Rattle.p9_space.specs.Rights.{Who}
 use Rattle.p9_fids.specs.declared.opened.Cursor.{Cursor}
 use Rattle.p9_step.specs.Listing.{UnionEntry, cursor_of, entries_from, entries_of, entry_at, is_behind}

@@ -15,8 +15,8 @@ use Rattle.p9_tree.specs.Node.{Node, has_number, marked}
 use Rattle.p9_tree.specs.Server.{Server, WellFormed, node_at, with_changed, with_dropped}
 use Rattle.p9_tree.proofs.Changed.{KeepsPlace, keeps-marked, node_at-changed_at}
 use Rattle.p9_tree.proofs.Dropped.{node_at-dropped_at}
-use Rattle.p9_space.specs.declared.row.Member.{Member}
-use Rattle.p9_space.specs.declared.trail.Step.{Step}
+use Rattle.p9_table.specs.declared.row.Member.{Member}
+use Rattle.p9_table.specs.declared.trail.Step.{Step}
 use Rattle.p9_space.specs.Place.{file_of}
 use Rattle.p9_space.specs.Rights.{Who}
 use Rattle.p9_space.specs.Table.{MountRow, members_of}

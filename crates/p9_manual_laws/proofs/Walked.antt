@@ -11,7 +11,7 @@ use Rattle.p9_base.specs.declared.qid.Qid.{Qid}
 use Rattle.p9_base.specs.Fault.{text_of}
 use Rattle.p9_base.specs.Results.{obtain, need, unless}
 use Rattle.p9_tree.specs.Node.{Node}
-use Rattle.p9_space.specs.declared.trail.Step.{Step}
+use Rattle.p9_table.specs.declared.trail.Step.{Step}
 use Rattle.p9_space.specs.Place.{file_of, file_ref}
 use Rattle.p9_space.specs.Trail.{here, stepped}
 use Rattle.p9_space.specs.Walk.{step_of}

@@ -9,14 +9,14 @@ use Rattle.p9_base.specs.declared.fault.Fault.TheVariants.{NotDirectory}
 use Rattle.p9_base.specs.declared.node_ref.NodeRef.{NodeRef}
 use Rattle.p9_base.specs.Results.{and_then}
 use Rattle.p9_tree.specs.Forest.{IsForest, is_dir_of}
-use Rattle.p9_space.specs.declared.row.Member.{Member}
-use Rattle.p9_space.specs.declared.table.UnmountError.{UnmountError}
+use Rattle.p9_table.specs.declared.row.Member.{Member}
+use Rattle.p9_table.specs.declared.table.UnmountError.{UnmountError}
 use Rattle.p9_space.specs.Given.{is_given, is_table_given}
 use Rattle.p9_space.specs.Place.{file_ref}
 use Rattle.p9_space.specs.Table.{MountRow, bound, members_of, unmounted}
 use Rattle.p9_space.specs.Trail.{here}
-use Rattle.p9_space.proofs.GivenTables.{bound-given, is_member_given, members-given}
-use Rattle.p9_space.proofs.GivenTables.{unmounted-given}
+use Rattle.p9_table.proofs.GivenTables.{bound-given, is_member_given, members-given}
+use Rattle.p9_table.proofs.GivenTables.{unmounted-given}
 use Rattle.p9_nsline.specs.declared.fault.OpFault.{OpFault}
 use Rattle.p9_nsline.specs.declared.fault.OpFault.TheVariants.{KindMismatch, Path, SpecGiven}
 use Rattle.p9_nsline.specs.declared.flags.Flags.{Flags}

@@ -22,7 +22,7 @@ use Rattle.p9_space.specs.Given.{is_given, is_table_given}
 use Rattle.p9_space.specs.Place.{file_ref, root_place}
 use Rattle.p9_space.specs.Trail.{here}
 use Rattle.p9_space.specs.Walk.{walk}
-use Rattle.p9_space.proofs.GivenTables.{file-given}
+use Rattle.p9_table.proofs.GivenTables.{file-given}
 use Rattle.p9_space.proofs.GivenWalks.{here-given, walk-given}
 use Rattle.p9_nsline.specs.declared.fault.OpFault.TheVariants.{UnknownServer}
 use Rattle.p9_base.specs.declared.node_ref.TheConstants.{SERVERS_MAX}

@@ -6,10 +6,10 @@ use Rattle.p9_base.specs.declared.node_ref.NodeRef.{NodeRef}
 use Rattle.p9_base.specs.Results.{and_then}
 use Rattle.p9_tree.specs.Server.{Server}
 use Rattle.p9_tree.specs.Forest.{is_dir_of}
-use Rattle.p9_space.specs.declared.row.Order.{Order}
-use Rattle.p9_space.specs.declared.row.Order.TheVariants.{Replace, Before, After}
-use Rattle.p9_space.specs.declared.table.UnmountError.{UnmountError}
-use Rattle.p9_space.specs.declared.table.UnmountError.TheVariants as u
+use Rattle.p9_table.specs.declared.row.Order.{Order}
+use Rattle.p9_table.specs.declared.row.Order.TheVariants.{Replace, Before, After}
+use Rattle.p9_table.specs.declared.table.UnmountError.{UnmountError}
+use Rattle.p9_table.specs.declared.table.UnmountError.TheVariants as u
 use Rattle.p9_space.specs.Table.{MountRow, bound, members_of, unmounted}
 use Rattle.p9_space.specs.Trail.{here}
 use Rattle.p9_nsline.specs.declared.fault.OpFault.{OpFault}

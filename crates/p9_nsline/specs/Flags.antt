@@ -2,8 +2,8 @@
 use Rattle.std.specs.Prelude.{ℕ, ◌==◌, ◌&&◌, ◌||◌, Bool, not, nat_lt, List, length, drop}
 use Rattle.std.specs.Prelude.{slice_index, Option, Some, None, if◌then◌else◌}
 use Rattle.std.specs.List.{list_all, list_any}
-use Rattle.p9_space.specs.declared.row.Order.{Order}
-use Rattle.p9_space.specs.declared.row.Order.TheVariants.{Replace, Before, After}
+use Rattle.p9_table.specs.declared.row.Order.{Order}
+use Rattle.p9_table.specs.declared.row.Order.TheVariants.{Replace, Before, After}
 use Rattle.p9_nsline.specs.declared.flags.Flags.{Flags}
 
 -- the bytes of a word of a line

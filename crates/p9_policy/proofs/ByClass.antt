@@ -8,7 +8,7 @@ use Rattle.p9_base.specs.declared.mode.Permissions.{Permissions}
 use Rattle.p9_base.specs.Group.{GroupRow}
 use Rattle.p9_base.specs.Rights.{is_granted}
 use Rattle.p9_tree.specs.Node.{Node, is_dir}
-use Rattle.p9_space.specs.Rights.{Who, may, rules, to_execute, to_read, to_write}
+use Rattle.p9_table.specs.Rights.{Who, may, rules, to_execute, to_read, to_write}
 use Rattle.p9_policy.specs.declared.classes.Classes.{Classes}
 use Rattle.p9_policy.specs.Classes.{gives_some, is_of}
 use Rattle.p9_policy.specs.Listed.{is_open, is_owned, is_passable, may_pass, may_use, some_listed}

@@ -6,7 +6,7 @@ use Rattle.std.specs.Str.{bytes_eq}
 use Rattle.p9_base.specs.Group.{Group, has_member, is_member, leads}
 use Rattle.p9_base.specs.declared.mode.Rights.{Rights}
 use Rattle.p9_tree.specs.Node.{Node}
-use Rattle.p9_space.specs.Rights.{Who}
+use Rattle.p9_table.specs.Rights.{Who}
 use Rattle.p9_policy.specs.declared.classes.Classes.{Classes}
 
 -- the user is of one of the classes: everybody is of the others

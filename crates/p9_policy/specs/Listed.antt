@@ -3,7 +3,7 @@ use Rattle.std.specs.Prelude.{ℕ, ◌&&◌, ◌||◌, Bool, List}
 use Rattle.std.specs.List.{list_any}
 use Rattle.p9_base.specs.Group.{GroupRow}
 use Rattle.p9_tree.specs.Node.{Node, is_dir}
-use Rattle.p9_space.specs.Rights.{Who, may, rules, to_execute, to_read, to_write}
+use Rattle.p9_table.specs.Rights.{Who, may, rules, to_execute, to_read, to_write}
 
 -- the user may read, write or search the node
 abbrev pub may_use : Node → Who → Bool

@@ -3,7 +3,7 @@
 ghost use Rattle.std.specs.Prelude.{◌≡◌, ◌||◌};
 ghost use Rattle.p9_base.specs.declared.mode.Rights.{Rights};
 ghost use Rattle.p9_tree.specs.Node.{Node as NodeIs};
-ghost use Rattle.p9_space.specs.Rights.{Who, rules};
+ghost use Rattle.p9_table.specs.Rights.{Who, rules};
 ghost use Rattle.p9_policy.specs.Classes.{gives_some, is_of};
 ghost use Rattle.p9_policy.specs.Listed.{may_alter, may_pass, may_use};
 

@@ -1,14 +1,14 @@
 //! What listed users may do with a node, no matter which of them.
 
 ghost use Rattle.std.specs.Prelude.{◌≡◌, ◌&&◌, ◌||◌, option_copied};
-ghost use Rattle.p9_space.specs.Rights.{who_view};
+ghost use Rattle.p9_table.specs.Rights.{who_view};
 ghost use Rattle.p9_policy.specs.Classes.{has_as_leader, has_as_member, is_of};
 ghost use Rattle.p9_policy.specs.Listed.{is_alterable, is_open, is_owned, is_passable, may_pass};
 ghost use Rattle.p9_policy.specs.Listed.{some_listed};
 
 use crate::classes::Classes;
 use p9_base::{Group, Groups, User};
-use p9_space::{TO_EXECUTE, Who, may, rules};
+use p9_table::{TO_EXECUTE, Who, may, rules};
 use p9_tree::{Node, Tree};
 use p9_world::World;
 use std::alloc::Allocator;

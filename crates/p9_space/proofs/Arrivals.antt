@@ -13,17 +13,16 @@ use Rattle.p9_tree.specs.Node.{Node, is_child}
 use Rattle.p9_tree.specs.Server.{Server, child_of, node_at}
 use Rattle.p9_tree.specs.Forest.{IsForest, child_in, no_server, node_of}
 use Rattle.p9_tree.proofs.Lookups.{node_at-found}
-use Rattle.p9_space.specs.Channel.{row_position}
-use Rattle.p9_space.specs.Place.{file_of, file_ref, first_node}
-use Rattle.p9_space.specs.Rights.{Who}
-use Rattle.p9_space.specs.Row.{member}
-use Rattle.p9_space.specs.Table.{MountRow, members_of}
-use Rattle.p9_space.specs.Trail.{here, places_max, stepped}
+use Rattle.p9_table.specs.Place.{file_of, file_ref, first_node}
+use Rattle.p9_table.specs.Rights.{Who}
+use Rattle.p9_table.specs.Row.{member}
+use Rattle.p9_table.specs.Table.{MountRow, members_of, row_position}
+use Rattle.p9_table.specs.Trail.{here, places_max, stepped}
 use Rattle.p9_space.specs.Walk.{arrived, dir_fault, is_alive, is_alive_dir, step_among, step_of}
-use Rattle.p9_space.specs.declared.row.Member.{Member}
-use Rattle.p9_space.specs.declared.trail.Step.{Step}
-use Rattle.p9_space.specs.declared.trail.Step.TheVariants.{To, Up}
-use Rattle.p9_space.proofs.Rows.{row_of-none}
+use Rattle.p9_table.specs.declared.row.Member.{Member}
+use Rattle.p9_table.specs.declared.trail.Step.{Step}
+use Rattle.p9_table.specs.declared.trail.Step.TheVariants.{To, Up}
+use Rattle.p9_table.proofs.Rows.{row_of-none}
 
 -- a child's node is the one of its place
 pub child-there : (forest : List Server) → IsForest forest → (dir : NodeRef) (name : List ℕ)

@@ -17,17 +17,17 @@ use Rattle.p9_tree.specs.Node.{Node, is_child}
 use Rattle.p9_tree.specs.Server.{Server, child_of}
 use Rattle.p9_tree.specs.Forest.{IsForest, child_in, no_server}
 use Rattle.p9_tree.proofs.Lookups.{All-node_at, node_at-found}
-use Rattle.p9_space.specs.Rights.{Who}
-use Rattle.p9_space.specs.declared.row.Member.{Member}
-use Rattle.p9_space.specs.declared.trail.Step.{Step}
-use Rattle.p9_space.specs.declared.trail.Step.TheVariants.{Up, To}
-use Rattle.p9_space.specs.Given.{is_given}
-use Rattle.p9_space.specs.Place.{file_of}
-use Rattle.p9_space.specs.Table.{MountRow, members_of}
-use Rattle.p9_space.specs.Trail.{here, stepped, upward, places_max}
+use Rattle.p9_table.specs.Rights.{Who}
+use Rattle.p9_table.specs.declared.row.Member.{Member}
+use Rattle.p9_table.specs.declared.trail.Step.{Step}
+use Rattle.p9_table.specs.declared.trail.Step.TheVariants.{Up, To}
+use Rattle.p9_table.specs.Given.{is_given}
+use Rattle.p9_table.specs.Place.{file_of}
+use Rattle.p9_table.specs.Table.{MountRow, members_of}
+use Rattle.p9_table.specs.Trail.{here, stepped, upward, places_max}
 use Rattle.p9_space.specs.Walk.{arrived, child_among, child_ref, is_alive, is_alive_dir}
 use Rattle.p9_space.specs.Walk.{is_searched, step_among, step_down, step_of, walk}
-use Rattle.p9_space.proofs.GivenLists.{all-append, all-cons, all-index_or, all-take}
+use Rattle.p9_table.proofs.GivenLists.{all-append, all-cons, all-index_or, all-take}
 
 module _ (forest : List Server) (sound : IsForest forest) where
   -- a directory's child was made

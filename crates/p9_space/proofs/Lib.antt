@@ -1,9 +1,5 @@
 mod Arrivals
-mod Rows
+mod ChannelRows
 mod Walks
-pub mod Tables
 pub mod Names
-pub mod GivenLists
-mod GivenRows
-pub mod GivenTables
 pub mod GivenWalks

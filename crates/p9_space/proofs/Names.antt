@@ -13,8 +13,8 @@ use Rattle.p9_tree.specs.Node.{Node, is_child}
 use Rattle.p9_tree.specs.Server.{Server, IsSound, node_at, child_of}
 use Rattle.p9_tree.specs.Forest.{IsForest, no_server, child_in}
 use Rattle.p9_tree.proofs.Lookups.{each_found}
-use Rattle.p9_space.specs.Rights.{Who}
-use Rattle.p9_space.specs.declared.row.Member.{Member}
+use Rattle.p9_table.specs.Rights.{Who}
+use Rattle.p9_table.specs.declared.row.Member.{Member}
 use Rattle.p9_space.specs.Walk.{is_searched, child_ref, child_among}
 
 -- where each node that a look-up finds is sound, each node is

@@ -15,13 +15,13 @@ use Rattle.p9_base.specs.Results.{and_then}
 use Rattle.p9_tree.specs.Node.{Node, is_dir}
 use Rattle.p9_tree.specs.Server.{Server}
 use Rattle.p9_tree.specs.Forest.{node_of}
-use Rattle.p9_space.specs.Rights.{Who}
-use Rattle.p9_space.specs.Table.{MountRow}
-use Rattle.p9_space.specs.Trail.{stepped}
+use Rattle.p9_table.specs.Rights.{Who}
+use Rattle.p9_table.specs.Table.{MountRow}
+use Rattle.p9_table.specs.Trail.{stepped}
 use Rattle.p9_space.specs.Walk.{child_among, child_ref, dir_fault, is_alive, is_alive_dir}
 use Rattle.p9_space.specs.Walk.{is_searched, may_search, named_among, named_child, step_of, walk}
-use Rattle.p9_space.specs.declared.row.Member.{Member}
-use Rattle.p9_space.specs.declared.trail.Step.{Step}
+use Rattle.p9_table.specs.declared.row.Member.{Member}
+use Rattle.p9_table.specs.declared.trail.Step.{Step}
 
 pub or-true : (b : Bool) → (b || true) ≡ true
 or-true true = refl

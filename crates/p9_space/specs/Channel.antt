@@ -1,9 +1,8 @@
 -- Channels: a trail, and where the rows of its places are in a mount table.
-use Rattle.std.specs.Prelude.{◌≡◌, ℕ, List, Option, map, position}
-use Rattle.std.specs.Map.{keys_of}
+use Rattle.std.specs.Prelude.{◌≡◌, ℕ, List, Option, map}
 use Rattle.p9_base.specs.declared.node_ref.NodeRef.{NodeRef}
-use Rattle.p9_base.specs.NodeRef.{same_node}
-use Rattle.p9_space.specs.Table.{MountRow}
+use Rattle.p9_table.specs.Table.{MountRow}
+pub use Rattle.p9_table.specs.Table.{row_position}
 
 -- the places, and for each the position of its row, if it has one
 pub record Channels : Type 0 where
@@ -13,10 +12,6 @@ pub record Channels : Type 0 where
 -- the places alone
 abbrev pub trail_of : Channels → List NodeRef
 trail_of channels = channels.trail
-
--- the position of the key's row in the table, if it has one
-abbrev pub row_position : NodeRef → List MountRow → Option ℕ
-row_position key table = position (same_node key) (keys_of table)
 
 -- those of the places
 abbrev pub rows_of : List MountRow → List NodeRef → List (Option ℕ)

@@ -1,10 +1,10 @@
-pub mod Row
-pub mod Table
-pub mod Trail
-pub mod Place
-pub mod Rights
 pub mod Walk
 pub mod Channel
 pub mod Found
-pub mod Given
 pub use Rattle.p9_clean.specs.Path
+pub use Rattle.p9_table.specs.Row
+pub use Rattle.p9_table.specs.Table
+pub use Rattle.p9_table.specs.Trail
+pub use Rattle.p9_table.specs.Place
+pub use Rattle.p9_table.specs.Rights
+pub use Rattle.p9_table.specs.Given

@@ -12,13 +12,13 @@ use Rattle.p9_base.specs.Results.{and_then}
 use Rattle.p9_tree.specs.Node.{Node, is_dir}
 use Rattle.p9_tree.specs.Server.{Server}
 use Rattle.p9_tree.specs.Forest.{node_of, child_in}
-use Rattle.p9_space.specs.declared.row.Member.{Member}
-use Rattle.p9_space.specs.declared.trail.Step.{Step}
-use Rattle.p9_space.specs.declared.trail.Step.TheVariants.{Up, To}
-use Rattle.p9_space.specs.Place.{file_of}
-use Rattle.p9_space.specs.Rights.{Who, may, to_execute}
-use Rattle.p9_space.specs.Table.{MountRow, members_of}
-use Rattle.p9_space.specs.Trail.{here, places_max, stepped}
+use Rattle.p9_table.specs.declared.row.Member.{Member}
+use Rattle.p9_table.specs.declared.trail.Step.{Step}
+use Rattle.p9_table.specs.declared.trail.Step.TheVariants.{Up, To}
+use Rattle.p9_table.specs.Place.{file_of}
+use Rattle.p9_table.specs.Rights.{Who, may, to_execute}
+use Rattle.p9_table.specs.Table.{MountRow, members_of}
+use Rattle.p9_table.specs.Trail.{here, places_max, stepped}
 
 -- the user may search the directory; without a user everybody may
 abbrev pub may_search : Option Who → Node → Bool

@@ -4,21 +4,18 @@ ghost use Rattle.std.specs.Prelude.{◌≡◌, ◌++◌, ◌∷◌, ◌<◌, ◌
 ghost use Rattle.std.specs.Prelude.{OnErr, OnOk, length, map, replicate, slice_get};
 ghost use Rattle.std.specs.Option.{option_map};
 ghost use Rattle.p9_base.specs.declared.fault.Fault.TheVariants.{OutOfMemory};
-ghost use Rattle.p9_space.specs.Channel.{Fits, row_position, rows_of, trail_of};
-ghost use Rattle.p9_space.specs.Place.{file_ref};
-ghost use Rattle.p9_space.specs.Rights.{who_view};
-ghost use Rattle.p9_space.specs.Table.{MountRow, members_of};
-ghost use Rattle.p9_space.specs.Trail.{IsTrail, here, places_max, stepped, upward};
+ghost use Rattle.p9_space.specs.Channel.{Fits, rows_of, trail_of};
+ghost use Rattle.p9_table.specs.Place.{file_ref};
+ghost use Rattle.p9_table.specs.Rights.{who_view};
+ghost use Rattle.p9_table.specs.Table.{MountRow, members_of, row_position};
+ghost use Rattle.p9_table.specs.Trail.{IsTrail, here, places_max, stepped, upward};
 ghost use Rattle.p9_space.specs.Walk.{step_of, walk};
 ghost use Rattle.p9_tree.specs.Forest.{node_of};
 
-use crate::rights::Who;
-use crate::row::Members;
-use crate::table::MountTable;
-use crate::trail::{ROOT_PLACE, Trail, last, position_above};
 use crate::walk::{Arrival, arrive_down, arrive_up};
 use crate::way::{Way, advance_on};
 use p9_base::{Fault, NoMemory, NodeRef};
+use p9_table::{Members, MountTable, ROOT_PLACE, Trail, Who, last, position_above};
 use p9_tree::{Forest, Tree};
 use std::alloc::Allocator;
 use std::marker::Model;

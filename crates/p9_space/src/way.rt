@@ -3,20 +3,18 @@
 ghost use Rattle.std.specs.Prelude.{◌≡◌, ◌++◌, ◌∷◌, ◌<◌, ◌≤◌, [], List, Ok, Err, IfErr, IfOk, IfSome};
 ghost use Rattle.std.specs.Prelude.{OnOk, Some, length, map};
 ghost use Rattle.std.specs.Option.{option_map};
-ghost use Rattle.p9_space.specs.Channel.{Fits, row_position, trail_of};
-ghost use Rattle.p9_space.specs.Place.{file_ref};
-ghost use Rattle.p9_space.specs.Rights.{who_view};
-ghost use Rattle.p9_space.specs.Table.{MountRow};
-ghost use Rattle.p9_space.specs.Trail.{IsTrail, here, places_max, stepped, upward};
+ghost use Rattle.p9_space.specs.Channel.{Fits, trail_of};
+ghost use Rattle.p9_table.specs.Place.{file_ref};
+ghost use Rattle.p9_table.specs.Rights.{who_view};
+ghost use Rattle.p9_table.specs.Table.{MountRow, row_position};
+ghost use Rattle.p9_table.specs.Trail.{IsTrail, here, places_max, stepped, upward};
 ghost use Rattle.p9_space.specs.Walk.{step_of, walk};
 ghost use Rattle.p9_tree.specs.Forest.{node_of};
 
 use crate::channel::{Channels, find_arrival_by_rows};
-use crate::rights::Who;
-use crate::table::MountTable;
-use crate::trail::{PLACES_MAX, ROOT_PLACE, Step, last};
 use crate::walk::Arrival;
 use p9_base::{Fault, NodeRef};
+use p9_table::{MountTable, PLACES_MAX, ROOT_PLACE, Step, Who, last};
 use p9_tree::{Forest, Tree};
 use std::alloc::Allocator;
 use std::marker::Model;
@@ -34,7 +32,7 @@ pub struct Way {
 impl Model for Way {
     ghost use Rattle.std.specs.Prelude.{◌<◌, ◌≤◌, take};
     ghost use Rattle.p9_space.specs.Channel.{Channels as ChannelsOf};
-    ghost use Rattle.p9_space.specs.Trail.{places_max};
+    ghost use Rattle.p9_table.specs.Trail.{places_max};
 
     ghost Value = { ChannelsOf };
 

@@ -22,7 +22,7 @@ use Rattle.p9_tree.specs.Server.{Server}
 use Rattle.p9_space.specs.Place.{file_of, file_ref}
 use Rattle.p9_space.specs.Trail.{here, stepped}
 use Rattle.p9_space.specs.Walk.{step_of}
-use Rattle.p9_space.specs.declared.trail.Step.{Step}
+use Rattle.p9_table.specs.declared.trail.Step.{Step}
 use Rattle.p9_wire.specs.Fields.{QidNumbersFit}
 use Rattle.p9_wire.specs.Frame.{msize_max}
 use Rattle.p9_wire.specs.Stat.{StatFields}

@@ -22,9 +22,9 @@ use Rattle.p9_tree.specs.Server.{Server}
 use Rattle.p9_space.specs.Table.{MountRow, members_of}
 use Rattle.p9_space.specs.Trail.{here, places_max}
 use Rattle.p9_space.specs.Walk.{arrived, child_among, step_among, step_down, step_of}
-use Rattle.p9_space.specs.declared.row.Member.{Member}
-use Rattle.p9_space.specs.declared.trail.Step.{Step}
-use Rattle.p9_space.specs.declared.trail.Step.TheVariants.{To}
+use Rattle.p9_table.specs.declared.row.Member.{Member}
+use Rattle.p9_table.specs.declared.trail.Step.{Step}
+use Rattle.p9_table.specs.declared.trail.Step.TheVariants.{To}
 use Rattle.p9_fids.specs.Fid.{FidRow, put_fault}
 use Rattle.p9_wire.specs.Reading.{t_message_of}
 use Rattle.p9_step.specs.Request.{request_of}

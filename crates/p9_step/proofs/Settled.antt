@@ -28,9 +28,9 @@ use Rattle.p9_space.specs.Table.{MountRow, members_of, row_of}
 use Rattle.p9_space.specs.Trail.{IsTrail, here, places_max, stepped, upward}
 use Rattle.p9_space.specs.Walk.{arrived, child_among, child_ref, is_alive, is_alive_dir}
 use Rattle.p9_space.specs.Walk.{is_searched, step_among, step_down, step_of}
-use Rattle.p9_space.specs.declared.row.Member.{Member}
-use Rattle.p9_space.specs.declared.trail.Step.{Step}
-use Rattle.p9_space.specs.declared.trail.Step.TheVariants.{To, Up}
+use Rattle.p9_table.specs.declared.row.Member.{Member}
+use Rattle.p9_table.specs.declared.trail.Step.{Step}
+use Rattle.p9_table.specs.declared.trail.Step.TheVariants.{To, Up}
 use Rattle.p9_fids.specs.Fid.{Fid, FidRow}
 use Rattle.p9_step.specs.Attach.{listed_user}
 use Rattle.p9_step.specs.Qid.{qid_at}

@@ -16,7 +16,7 @@ use Rattle.p9_base.specs.NodeRef.{beside}
 use Rattle.p9_tree.specs.Node.{Node, is_dir}
 use Rattle.p9_tree.specs.Server.{Server, next_max}
 use Rattle.p9_tree.specs.Forest.{child_in, next_of, node_of}
-use Rattle.p9_space.specs.declared.row.Member.{Member}
+use Rattle.p9_table.specs.declared.row.Member.{Member}
 use Rattle.p9_space.specs.Rights.{may, to_write}
 use Rattle.p9_space.specs.Table.{members_of}
 use Rattle.p9_space.specs.Trail.{here, places_max}

@@ -6,7 +6,7 @@ use Rattle.p9_base.specs.declared.node_ref.NodeRef.{NodeRef}
 use Rattle.p9_tree.specs.Node.{Node, is_dir}
 use Rattle.p9_tree.specs.Server.{Server}
 use Rattle.p9_tree.specs.Forest.{children_of, node_of}
-use Rattle.p9_space.specs.declared.row.Member.{Member}
+use Rattle.p9_table.specs.declared.row.Member.{Member}
 use Rattle.p9_space.specs.Rights.{Who, may, to_read}
 use Rattle.p9_space.specs.Table.{MountRow, members_of}
 use Rattle.p9_fids.specs.declared.opened.Cursor.{Cursor}

@@ -8,7 +8,7 @@ use Rattle.p9_base.specs.declared.node_ref.NodeRef.{NodeRef}
 use Rattle.p9_base.specs.declared.qid.Qid.{Qid}
 use Rattle.p9_base.specs.Results.{and_then, obtain, need, unless}
 use Rattle.p9_tree.specs.Server.{Server}
-use Rattle.p9_space.specs.declared.trail.Step.{Step}
+use Rattle.p9_table.specs.declared.trail.Step.{Step}
 use Rattle.p9_space.specs.Trail.{here, stepped}
 use Rattle.p9_space.specs.Walk.{step_of}
 use Rattle.p9_wire.specs.Message.{Rwalk}

@@ -12,7 +12,7 @@ use Rattle.p9_base.specs.Group.{Group, GroupRow, group_of, has_member, is_member
 use Rattle.p9_tree.specs.Forest.{node_of}
 use Rattle.p9_tree.specs.Node.{Node, is_dir}
 use Rattle.p9_tree.specs.Server.{Server}
-use Rattle.p9_space.specs.declared.row.Member.{Member}
+use Rattle.p9_table.specs.declared.row.Member.{Member}
 use Rattle.p9_space.specs.Rights.{Who}
 use Rattle.p9_cert.specs.Listed.{may_pass}
 use Rattle.p9_policy.proofs.Basics.{clash}

@@ -6,7 +6,7 @@ use Rattle.std.specs.List.{flat_map, list_any}
 use Rattle.p9_shown.specs.Text.{shown_text}
 use Rattle.p9_tree.specs.Inside.{is_hidden}
 use Rattle.p9_tree.specs.Node.{Node}
-use Rattle.p9_space.specs.declared.row.Member.{Member}
+use Rattle.p9_table.specs.declared.row.Member.{Member}
 use Rattle.p9_space.specs.Channel.{row_position}
 use Rattle.p9_space.specs.Place.{file_of}
 use Rattle.p9_space.specs.Rights.{Who}

@@ -7,7 +7,7 @@ use Rattle.p9_tree.specs.Node.{Node, is_dir}
 use Rattle.p9_tree.specs.Server.{Server}
 use Rattle.p9_tree.specs.Forest.{node_of}
 use Rattle.p9_shown.specs.Text.{shown_text}
-use Rattle.p9_space.specs.declared.row.Member.{Member}
+use Rattle.p9_table.specs.declared.row.Member.{Member}
 use Rattle.p9_space.specs.Rights.{Who}
 use Rattle.p9_space.specs.Walk.{is_searched}
 use Rattle.p9_cert.specs.Listed.{may_pass}

@@ -15,9 +15,9 @@ use Rattle.p9_space.specs.Rights.{Who}
 use Rattle.p9_space.specs.Table.{MountRow, members_of}
 use Rattle.p9_space.specs.Trail.{here, places_max, stepped}
 use Rattle.p9_space.specs.Walk.{arrived, child_among, step_among, step_down, step_of, walk}
-use Rattle.p9_space.specs.declared.row.Member.{Member}
-use Rattle.p9_space.specs.declared.trail.Step.{Step}
-use Rattle.p9_space.specs.declared.trail.Step.TheVariants.{To}
+use Rattle.p9_table.specs.declared.row.Member.{Member}
+use Rattle.p9_table.specs.declared.trail.Step.{Step}
+use Rattle.p9_table.specs.declared.trail.Step.TheVariants.{To}
 use Rattle.p9_step.specs.Answer.{Answer, Outcome}
 use Rattle.p9_wire.specs.Message.{RMessage}
 use Rattle.p9_step.specs.Attach.{attach_answer, attach_walk, attached_at}

@@ -18,7 +18,7 @@ use Rattle.p9_base.specs.NodeRef.{beside}
 use Rattle.p9_tree.specs.Node.{Node, is_in}
 use Rattle.p9_tree.specs.Server.{Server}
 use Rattle.p9_tree.specs.Forest.{IsForest, child_in_after, server_at}
-use Rattle.p9_space.specs.declared.row.Member.{Member}
+use Rattle.p9_table.specs.declared.row.Member.{Member}
 use Rattle.p9_fids.specs.declared.opened.Cursor.{Cursor}
 use Rattle.p9_tree.specs.Forest.{children_of}
 use Rattle.p9_step.specs.Listing.{UnionEntry, cursor_of, entries_from, entries_of}

@@ -1,10 +1,10 @@
 use Rattle.std.proofs.Common.{◌≡◌, Ok, Err, IfOk, IfErr, sym, subst, codes, ◌∙◌}
 use Rattle.std.specs.Option.{option_map}
 use Rattle.std.proofs.lemmas.Slice.Eq.{bytes_eq-Decides}
-use Rattle.p9_space.specs.Rights.{who_view}
-use Rattle.p9_space.specs.Trail.{here, upward}
+use Rattle.p9_table.specs.Rights.{who_view}
+use Rattle.p9_table.specs.Trail.{here, upward}
 use Rattle.p9_space.specs.Walk.{step_of}
-use Rattle.p9_space.proofs.Rows.{row-read}
+use Rattle.p9_space.proofs.ChannelRows.{row-read}
 use Rattle.p9_space.proofs.channel.find_arrival_by_rows.Goals as goal
 
 pub arrive_up-requires-clause-row : goal.arrive_up-requires-clause-row

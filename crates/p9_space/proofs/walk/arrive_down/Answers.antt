@@ -2,10 +2,10 @@ use Rattle.std.proofs.Common.{◌≡◌, ◌≤◌, Some, Ok, Err, length, sym, 
 use Rattle.std.specs.Option.{option_map}
 use Rattle.std.proofs.lemmas.Result.{IfErr-weaker, IfOk-weaker}
 use Rattle.p9_tree.specs.Forest.{node_of}
-use Rattle.p9_space.specs.Channel.{row_position}
-use Rattle.p9_space.specs.Place.{file_of, file_ref}
-use Rattle.p9_space.specs.Rights.{who_view}
-use Rattle.p9_space.specs.Trail.{here, places_max, stepped}
+use Rattle.p9_table.specs.Table.{row_position}
+use Rattle.p9_table.specs.Place.{file_of, file_ref}
+use Rattle.p9_table.specs.Rights.{who_view}
+use Rattle.p9_table.specs.Trail.{here, places_max, stepped}
 use Rattle.p9_space.proofs.Arrivals.{both-ok, file_ref-alone, here-pushed, pushed-few}
 use Rattle.p9_space.proofs.Arrivals.{step-alone, step-found, step-lost, step-refused}
 use Rattle.p9_space.proofs.Walks.{passed_on}

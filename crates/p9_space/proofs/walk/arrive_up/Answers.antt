@@ -1,10 +1,10 @@
 use Rattle.std.proofs.Common.{◌≡◌, Some, Ok, Err, codes, ap, sym, ◌∙◌}
 use Rattle.std.proofs.lemmas.Result.{IfErr-weaker}
 use Rattle.p9_tree.specs.Forest.{node_of}
-use Rattle.p9_space.specs.Channel.{row_position}
-use Rattle.p9_space.specs.Place.{file_of, file_ref}
-use Rattle.p9_space.specs.Trail.{here, stepped}
-use Rattle.p9_space.specs.declared.trail.Step.TheVariants.{Up}
+use Rattle.p9_table.specs.Table.{row_position}
+use Rattle.p9_table.specs.Place.{file_of, file_ref}
+use Rattle.p9_table.specs.Trail.{here, stepped}
+use Rattle.p9_table.specs.declared.trail.Step.TheVariants.{Up}
 use Rattle.p9_space.proofs.Arrivals.{both-ok, step-arrives, step-gone, step-refused, up-among}
 use Rattle.p9_space.proofs.Arrivals.{up-refused}
 use Rattle.p9_space.proofs.walk.arrive_up.Goals as goal

@@ -1,7 +1,7 @@
 use Rattle.std.proofs.Common.{◌≡◌, ◌||◌, ◌∙◌, ap, sym}
 use Rattle.std.specs.Option.{option_copied, option_map}
 use Rattle.p9_space.specs.Found.{place_of}
-use Rattle.p9_space.specs.Rights.{who_view}
+use Rattle.p9_table.specs.Rights.{who_view}
 use Rattle.p9_space.specs.Walk.{is_alive, is_alive_dir, is_searched}
 use Rattle.p9_space.proofs.Walks.{any-done, any-on, found-alive, found-dir, found-searched}
 use Rattle.p9_space.proofs.Walks.{named-done, named-here, named-on, none-viewed, some-viewed}

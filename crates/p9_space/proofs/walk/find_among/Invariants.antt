@@ -1,7 +1,7 @@
 use Rattle.std.proofs.Common.{◌≡◌, ◌||◌, drop}
 use Rattle.std.specs.List.{list_any}
 use Rattle.std.specs.Option.{option_copied, option_map}
-use Rattle.p9_space.specs.Rights.{who_view}
+use Rattle.p9_table.specs.Rights.{who_view}
 use Rattle.p9_space.specs.Walk.{is_alive, is_alive_dir, is_searched, named_among}
 use Rattle.p9_space.proofs.walk.find_among.Given as goal
 

@@ -1,6 +1,6 @@
 use Rattle.std.proofs.Common.{sym, refl, ◌∙◌}
 use Rattle.std.specs.Option.{option_map}
-use Rattle.p9_space.specs.Rights.{who_view}
+use Rattle.p9_table.specs.Rights.{who_view}
 use Rattle.p9_space.proofs.Names.{child_among-invalid}
 use Rattle.p9_space.proofs.walk.find_by.Goals as goal
 

@@ -1,7 +1,7 @@
 use Rattle.std.proofs.Common.{refl}
 use Rattle.std.specs.Option.{option_map}
 use Rattle.p9_space.specs.Channel.{trail_of}
-use Rattle.p9_space.specs.Rights.{who_view}
+use Rattle.p9_table.specs.Rights.{who_view}
 use Rattle.p9_space.proofs.Walks.{passed_on, walk-done, walk-on, walk-refused}
 use Rattle.p9_space.proofs.way.advance_on.Goals as goal
 

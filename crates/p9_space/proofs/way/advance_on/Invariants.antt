@@ -1,7 +1,7 @@
 use Rattle.std.proofs.Common.{◌≡◌, drop, map}
 use Rattle.std.specs.Option.{option_map}
 use Rattle.p9_space.specs.Channel.{Fits, trail_of}
-use Rattle.p9_space.specs.Rights.{who_view}
+use Rattle.p9_table.specs.Rights.{who_view}
 use Rattle.p9_space.specs.Walk.{walk}
 use Rattle.p9_space.proofs.way.advance_on.Given as goal
 

@@ -1,6 +1,6 @@
 use Rattle.std.proofs.Common.{◌∙◌, false, subst}
 use Rattle.p9_tree.specs.Forest.{IsForest}
-use Rattle.p9_space.specs.declared.row.Member.{Member}
+use Rattle.p9_table.specs.declared.row.Member.{Member}
 use Rattle.p9_world.specs.World.{World}
 use Rattle.p9_cert.specs.Policy.{policy_of}
 use Rattle.p9_judge.specs.Search.{IsAt}

@@ -1,6 +1,6 @@
 use Rattle.std.specs.Str.{bytes_eq}
 use Rattle.p9_base.specs.Group.{is_member, leads}
-use Rattle.p9_space.specs.Rights.{Who}
+use Rattle.p9_table.specs.Rights.{Who}
 use Rattle.p9_policy.proofs.ByClass.{use-by-classes}
 use Rattle.p9_policy.proofs.classes.Classes.to_use.Goals as goal
 

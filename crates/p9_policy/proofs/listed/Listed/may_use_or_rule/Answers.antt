@@ -1,5 +1,5 @@
 use Rattle.std.proofs.Common.{◌∙◌, ◌||◌}
-use Rattle.p9_space.specs.Rights.{rules}
+use Rattle.p9_table.specs.Rights.{rules}
 use Rattle.p9_policy.specs.Classes.{is_of}
 use Rattle.p9_policy.specs.Listed.{may_use}
 use Rattle.p9_policy.proofs.ByClass.{open_or_owned, some-same}

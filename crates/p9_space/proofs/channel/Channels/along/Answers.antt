@@ -1,8 +1,8 @@
 use Rattle.std.proofs.Common.{arith, ap, length}
 use Rattle.std.proofs.lemmas.List.{length-map, length-replicate}
 use Rattle.p9_base.specs.declared.node_ref.NodeRef.{NodeRef}
-use Rattle.p9_space.specs.Channel.{row_position}
-use Rattle.p9_space.specs.Place.{root_place}
+use Rattle.p9_table.specs.Table.{row_position}
+use Rattle.p9_table.specs.Place.{root_place}
 use Rattle.p9_space.proofs.channel.Channels.along.Goals as goal
 
 -- there are as many rows as places on both sides

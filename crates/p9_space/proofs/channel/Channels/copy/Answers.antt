@@ -1,5 +1,5 @@
 use Rattle.std.proofs.Common.{ℕ, ap₂, ◌∙◌}
-use Rattle.p9_space.proofs.Tables.{options-same}
+use Rattle.p9_table.proofs.Tables.{options-same}
 use Rattle.p9_space.proofs.channel.Channels.copy.Goals as goal
 
 pub returns : goal.returns

@@ -1,7 +1,7 @@
 use Rattle.std.proofs.Common.{◌++◌, ◌-◌, ap, sym, take, ◌∙◌}
 use Rattle.std.specs.Prelude.{replicate, vec_len}
 use Rattle.p9_space.specs.Channel.{rows_of}
-use Rattle.p9_space.proofs.Rows.{rows-filled}
+use Rattle.p9_space.proofs.ChannelRows.{rows-filled}
 use Rattle.p9_space.proofs.channel.Channels.filled.Goals as goal
 
 pub returns-clause-fits : goal.returns-clause-fits

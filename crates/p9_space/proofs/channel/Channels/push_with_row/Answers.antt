@@ -1,6 +1,7 @@
 use Rattle.std.proofs.Common.{◌++◌, ◌∷◌, [], ap, ap₂, sym, ◌∙◌}
 use Rattle.std.proofs.lemmas.List.{map-append}
-use Rattle.p9_space.specs.Channel.{Channels, row_position, rows_of, trail_of}
+use Rattle.p9_table.specs.Table.{row_position}
+use Rattle.p9_space.specs.Channel.{Channels, rows_of, trail_of}
 use Rattle.p9_space.proofs.channel.Channels.push_with_row.Goals as goal
 
 pub returns-clause-ok : goal.returns-clause-ok

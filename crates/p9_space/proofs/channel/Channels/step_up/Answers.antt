@@ -1,6 +1,6 @@
 use Rattle.std.proofs.Common.{◌≡◌, ap, sym, ◌∙◌, length, take}
 use Rattle.p9_space.specs.Channel.{rows_of}
-use Rattle.p9_space.proofs.Rows.{rows-upward}
+use Rattle.p9_space.proofs.ChannelRows.{rows-upward}
 use Rattle.p9_space.proofs.channel.Channels.step_up.Goals as goal
 
 pub returns-clause-fits : goal.returns-clause-fits

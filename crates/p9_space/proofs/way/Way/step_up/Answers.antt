@@ -1,5 +1,5 @@
 use Rattle.std.proofs.Common.{◌-◌, arith}
-use Rattle.p9_space.proofs.Rows.{rows-shorter}
+use Rattle.p9_space.proofs.ChannelRows.{rows-shorter}
 use Rattle.p9_space.proofs.way.Way.step_up.Goals as goal
 
 pub returns-then-self-gt1-clause-fits : goal.returns-then-self-gt1-clause-fits

@@ -1,7 +1,8 @@
 use Rattle.std.proofs.Common.{◌++◌, ◌∷◌, [], ap, ap₂, sym, ◌∙◌}
 use Rattle.std.proofs.lemmas.List.{map-append}
-use Rattle.p9_space.specs.Channel.{row_position, rows_of, trail_of}
-use Rattle.p9_space.specs.Trail.{here, stepped}
+use Rattle.p9_table.specs.Table.{row_position}
+use Rattle.p9_space.specs.Channel.{rows_of, trail_of}
+use Rattle.p9_table.specs.Trail.{here, stepped}
 use Rattle.p9_space.proofs.Arrivals.{here-pushed}
 use Rattle.p9_space.proofs.way.Way.take.Goals as goal
 

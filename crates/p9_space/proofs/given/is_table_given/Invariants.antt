@@ -1,9 +1,0 @@
-use Rattle.std.proofs.Common.{◌≡◌, drop}
-use Rattle.p9_space.specs.Given.{is_table_given}
-use Rattle.p9_space.proofs.given.is_table_given.Given as goal
-
--- the rows that are left give the answer
-abbrev pub invariant-loop-position : goal.invariant-loop-position
-invariant-loop-position g l =
-    let forest = l.forest in
-    is_table_given forest (drop l.position l.table) ≡ is_table_given forest l.table

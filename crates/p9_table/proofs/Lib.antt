@@ -1,0 +1,5 @@
+pub mod Rows
+pub mod Tables
+pub mod GivenLists
+mod GivenRows
+pub mod GivenTables
