@@ -10,7 +10,6 @@ use Rattle.p9_space.specs.Given.{is_table_given}
 use Rattle.p9_space.specs.Place.{root_place}
 use Rattle.p9_space.specs.Table.{MountRow}
 use Rattle.p9_policy.specs.Policy.{Policy}
-pub use Rattle.p9_policy.specs.Barred.{AreNotBarred}
 use Rattle.p9_cert.specs.Safe.{IsSafe, Set}
 
 module _ (policy : Policy) (forest : List Server) where

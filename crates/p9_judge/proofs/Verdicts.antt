@@ -14,7 +14,8 @@ use Rattle.p9_table.specs.declared.row.Member.{Member}
 use Rattle.p9_space.specs.Given.{is_table_given}
 use Rattle.p9_space.specs.Place.{root_place}
 use Rattle.p9_space.specs.Table.{MountRow, members_of}
-use Rattle.p9_cert.specs.Closed.{AreNotBarred, IsClosed}
+use Rattle.p9_policy.specs.Barred.{AreNotBarred}
+use Rattle.p9_cert.specs.Closed.{IsClosed}
 use Rattle.p9_cert.specs.Policy.{Policy}
 use Rattle.p9_cert.specs.Rows.{is_row}
 use Rattle.p9_cert.specs.Safe.{IsSafe, IsSafeMember, Set}

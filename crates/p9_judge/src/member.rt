@@ -1,7 +1,7 @@
 //! What is wrong with the members of a place, and who may pass them.
 
 ghost use Rattle.std.specs.Prelude.{◌≡◌, AllPairs, IsTrue, find};
-ghost use Rattle.p9_cert.specs.Closed.{AreNotBarred};
+ghost use Rattle.p9_policy.specs.Barred.{AreNotBarred};
 ghost use Rattle.p9_cert.specs.Policy.{policy_of};
 ghost use Rattle.p9_cert.specs.Rows.{is_below};
 ghost use Rattle.p9_judge.specs.Breach.{breach_kind, first_passer, hidden_kind, may_be_passed_by};
