@@ -98,7 +98,7 @@ impl<D: Device, A: Allocator + Copy> Journal for FileJournal<D, A> {
 }
 
 impl<D: Device, A: Allocator + Copy> FileJournal<D, A> {
-    ghost use Rattle.std.specs.Prelude.{◌≡◌, ◌++◌, ◌⊎◌, ◌==◌, [], false, IfOk, IsTrue, List, OnErr, OnOk, length, ℕ};
+    ghost use Rattle.std.specs.Prelude.{◌≡◌, ◌<◌, ◌++◌, ◌⊎◌, ◌==◌, [], false, IfErr, IfOk, IsTrue, List, OnErr, OnOk, length, ℕ};
     ghost use Rattle.p9_log.specs.declared.crash.Crash.{Crash};
     ghost use Rattle.p9_log.specs.declared.crash.Crash.TheVariants.{Killed, Stopped};
     ghost use Rattle.p9_log.specs.Blocks.{content_in};
@@ -110,6 +110,7 @@ impl<D: Device, A: Allocator + Copy> FileJournal<D, A> {
     ghost use Rattle.p9_tree.specs.Server.{Server};
     ghost use Rattle.p9_kept.specs.Edits.{IsWhole, stood_for};
     ghost use Rattle.p9_kept.specs.Making.{IsAppendedAndKept, IsRenewed, IsUntouched, Makes};
+    ghost use Rattle.p9_kept.specs.Settling.{relieved, unsettled};
 
     /// A journal behind the records of a log, with room for what is noted between two calls of
     /// [`relieve`](Journal::relieve), so that keeping changes takes no memory from then on. The only
@@ -173,11 +174,13 @@ impl<D: Device, A: Allocator + Copy> FileJournal<D, A> {
         }
     }
 
-    /// Makes what was noted outlast the process, as [`Journal::settle`].
+    /// Makes what was noted outlast the process, as [`Journal::settle`]. A journal that isn't whole is
+    /// [`Unsettled::Missing`], and a file that fails [`Unsettled::Failed`].
     pub fn settle_noted(&mut self) -> Result<(), Unsettled>
         ensures whole { IsTrue self.new.whole → IsTrue self.old.whole }
         ensures ok { OnOk result (IsTrue self.new.whole) }
         ensures err { OnErr result (self.new.whole ≡ false) }
+        ensures why { IfErr result (λ error. error ≡ unsettled self.old.whole) }
         ensures empty { OnOk result (self.new.noted ≡ []) }
         ensures settled { OnOk result (content_in Killed (D.seen self.new.log.device)
             ≡ content_in Killed (D.seen self.old.log.device) ++ self.old.noted) }
@@ -201,12 +204,14 @@ impl<D: Device, A: Allocator + Copy> FileJournal<D, A> {
         Ok(())
     }
 
-    /// Settles where much was noted since, as [`Journal::relieve`].
+    /// Settles where 32 KiB were noted since, as [`Journal::relieve`]. Fewer are noted afterwards, or the
+    /// journal isn't whole.
     pub fn relieve_noted(&mut self)
         ensures whole { IsTrue self.new.whole → IsTrue self.old.whole }
         ensures same { IsTrue self.new.whole
             → content_in Killed (D.seen self.new.log.device) ++ self.new.noted
             ≡ content_in Killed (D.seen self.old.log.device) ++ self.old.noted }
+        ensures bounded { IsTrue self.new.whole → length self.new.noted < relieved }
         ensures settled { IsTrue self.new.whole
             → (D.seen self.new.log.device ≡ D.seen self.old.log.device)
             ⊎ (self.new.noted ≡ []) }
@@ -222,11 +227,13 @@ impl<D: Device, A: Allocator + Copy> FileJournal<D, A> {
         }
     }
 
-    /// Makes what was noted outlast the machine, as [`Journal::sync`].
+    /// Makes what was noted outlast the machine, as [`Journal::sync`], with the errors of
+    /// [`settle_noted`](FileJournal::settle_noted).
     pub fn sync_noted(&mut self) -> Result<(), Unsettled>
         ensures whole { IsTrue self.new.whole → IsTrue self.old.whole }
         ensures ok { OnOk result (IsTrue self.new.whole) }
         ensures err { OnErr result (self.new.whole ≡ false) }
+        ensures why { IfErr result (λ error. error ≡ unsettled self.old.whole) }
         ensures empty { OnOk result (self.new.noted ≡ []) }
         ensures settled { OnOk result (content_in Killed (D.seen self.new.log.device)
             ≡ content_in Killed (D.seen self.old.log.device) ++ self.old.noted) }
