@@ -1,6 +1,6 @@
 //! Whether a node is hidden, or inside a hidden directory.
 
-ghost use Rattle.std.specs.Prelude.{◌≡◌, ◌<◌, AllPairs, IfSome, IsTrue, option_and_then};
+ghost use Rattle.std.specs.Prelude.{◌≡◌, ◌<◌, AllPairs, IsTrue, option_and_then};
 ghost use Rattle.p9_tree.specs.Forest.{node_of};
 ghost use Rattle.p9_tree.specs.Inside.{is_hidden, is_inside};
 ghost use Rattle.p9_policy.specs.Barred.{AreNotBarred};
