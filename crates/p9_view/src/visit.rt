@@ -33,14 +33,27 @@ pub fn tour_of<T: Tree>(
         IsTourOf forest.now table.now (option_map who_view who.entry) tour) }
 {
     forest.well_formed();
-    let mut tour = Tour::new(alloc);
-    let mut met = Met::new(alloc);
-    let mut waiting = Vec::new(alloc);
-    waiting.push(Entry::root())?;
-    while let Some(entry) = waiting.pop() {
-        visit(forest, table, who, entry, &mut tour, &mut met, &mut waiting)?;
+    let mut underway = Underway {
+        tour: Tour::new(alloc),
+        met: Met::new(alloc),
+        waiting: Vec::new(alloc),
+    };
+    underway.waiting.push(Entry::root())?;
+    while let Some(entry) = underway.waiting.pop() {
+        visit(forest, table, who, entry, &mut underway)?;
     }
-    Ok(tour)
+    Ok(underway.tour)
+}
+
+// How far a tour is.
+#[derive(Drop)]
+struct Underway<A: Allocator + Copy> {
+    // the entries that were visited
+    tour: Tour<A>,
+    // the members that were met, each with the index of its entry
+    met: Met<A>,
+    // the entries that are still to be visited, the next one last
+    waiting: Vec<Entry, A>,
 }
 
 // Adds an entry. Unless its members were met before, what is below it waits.
@@ -49,32 +62,31 @@ fn visit<T: Tree>(
     table: &MountTable<T::Alloc>,
     who: Option<Who<'_, T::Alloc>>,
     entry: Entry,
-    tour: &mut Tour<T::Alloc>,
-    met: &mut Met<T::Alloc>,
-    waiting: &mut Vec<Entry, T::Alloc>,
+    underway: &mut Underway<T::Alloc>,
 ) -> Result<(), NoMemory>
-    requires { IsUnderway forest.now table.now (option_map who_view who) tour.old
-        (entry ∷ reverse waiting.old.items) met.old }
+    requires { IsUnderway forest.now table.now (option_map who_view who) underway.old.tour
+        (entry ∷ reverse underway.old.waiting.items) underway.old.met }
     ensures underway { OnOk result (IsUnderway forest.now table.now
-        (option_map who_view who.entry) tour.new (reverse waiting.new.items) met.new) }
-    ensures longer { OnOk result (length tour.new ≡ length tour.old + 1) }
-    ensures small { length tour.old < 2 ^ 64 }
+        (option_map who_view who.entry) underway.new.tour (reverse underway.new.waiting.items)
+        underway.new.met) }
+    ensures longer { OnOk result (length underway.new.tour ≡ length underway.old.tour + 1) }
+    ensures small { length underway.old.tour < 2 ^ 64 }
 {
-    let alloc = tour.allocator();
-    let index = tour.count();
+    let alloc = underway.tour.allocator();
+    let index = underway.tour.count();
     let members = table.members(entry.place);
     let nodes = nodes_of(alloc, members.as_slice())?;
-    if let Some(same) = met.get(nodes.as_slice()) {
-        tour.push(Entry {
+    if let Some(same) = underway.met.get(nodes.as_slice()) {
+        underway.tour.push(Entry {
             same: Some(same),
             ..entry
         })?;
         return Ok(());
     }
     let ways = ways_from(alloc, forest, table, who, entry.place)?;
-    await_ways(index, entry.access, ways, waiting)?;
-    met.insert(nodes, index)?;
-    tour.push(entry)
+    await_ways(index, entry.access, ways, &mut underway.waiting)?;
+    underway.met.insert(nodes, index)?;
+    underway.tour.push(entry)
 }
 
 // Lets the ways that lead on from an entry wait, the first before the others.

@@ -13,7 +13,7 @@ visit-requires g c =
     let forest = c.args.forest.now in
     let table = c.args.table.now in
     let who = option_map who_view c.args.who in
-    subst (λ waiting. IsUnderway forest table who c.loop-entry.tour waiting c.loop-entry.met)
+    subst (λ waiting. IsUnderway forest table who c.loop-entry.underway.tour waiting c.loop-entry.underway.met)
     (ap reverse c.in-Some.ensures.items ∙ reverse-append c.pop.new.self.items (c.in-Some.entry ∷ []))
     c.loop-entry.invariant
 
@@ -29,12 +29,12 @@ loop-entry-init g c =
     let table = c.args.table.now in
     let who = option_map who_view c.args.who in
     let waits : c.push.new.self.items ≡ root_entry ∷ [] =
-    c.in_ok-push.ensures.items ∙ ap (λ es. es ++ c.root.result ∷ []) c.new-waiting.ensures.items
+    c.in_ok-push.ensures.items ∙ ap (λ es. es ++ c.root.result ∷ []) c.new-3.ensures.items
     ∙ ap (λ e. e ∷ []) c.root.ensures in
-    subst (λ waiting. IsUnderway forest table who c.new-tour.result (reverse waiting) c.new-met.result)
+    subst (λ waiting. IsUnderway forest table who c.new.result (reverse waiting) c.new-2.result)
     (sym waits)
-    (subst (λ tour. IsUnderway forest table who tour (root_entry ∷ []) c.new-met.result)
-    (sym c.new-tour.ensures) (underway-root forest table who c.new-met.result c.new-met.ensures))
+    (subst (λ tour. IsUnderway forest table who tour (root_entry ∷ []) c.new-2.result)
+    (sym c.new.ensures) (underway-root forest table who c.new-2.result c.new-2.ensures))
 
 pub loop-entry-preserved : goal.loop-entry-preserved
 loop-entry-preserved g c = c.in_ok-visit.ensures.underway
@@ -45,8 +45,8 @@ returns g c =
     let table = c.args.table.now in
     let who = option_map who_view c.args.who in
     let count = c.in_default.ensures.cases.0 in
-    let ok = c.loop-entry.waiting.ok.0 in
-    let none : length c.loop-entry.waiting.items ≡ 0 = omega (arith, count, ok) in
-    tour-whole forest table who c.well_formed-2.ensures c.loop-entry.tour c.loop-entry.met
-    (subst (λ waiting. IsUnderway forest table who c.loop-entry.tour (reverse waiting) c.loop-entry.met)
-    (nil_from_length c.loop-entry.waiting.items none) c.loop-entry.invariant)
+    let ok = c.loop-entry.underway.waiting.ok.0 in
+    let none : length c.loop-entry.underway.waiting.items ≡ 0 = omega (arith, count, ok) in
+    tour-whole forest table who c.well_formed-2.ensures c.loop-entry.underway.tour c.loop-entry.underway.met
+    (subst (λ waiting. IsUnderway forest table who c.loop-entry.underway.tour (reverse waiting) c.loop-entry.underway.met)
+    (nil_from_length c.loop-entry.underway.waiting.items none) c.loop-entry.invariant)

@@ -9,9 +9,9 @@ abbrev pub invariant-loop-entry : goal.invariant-loop-entry
 invariant-loop-entry g l =
     let forest = l.forest in
     let table = l.table in
-    let tour = l.tour in
-    IsUnderway forest table (option_map who_view l.who) tour (reverse l.waiting.items) l.met
+    let tour = l.underway.tour in
+    IsUnderway forest table (option_map who_view l.who) tour (reverse l.underway.waiting.items) l.underway.met
 
 -- no list is longer than memory
 abbrev pub decreases-loop-entry : goal.decreases-loop-entry
-decreases-loop-entry g l = let tour = l.tour in 2 ^ 64 - length tour
+decreases-loop-entry g l = let tour = l.underway.tour in 2 ^ 64 - length tour
